@@ -1,0 +1,112 @@
+// The ledger: trades over a register of securities and a cash book, and the rules of settlement.
+ghost use mathlib.Core.Path.{_≡_};
+ghost use Rattle.ledger.specs.Rules.{empty, step, verdict, faultOf, Reached};
+ghost use Rattle.ledger.specs.Rows.{stateQuestion};
+ghost use Rattle.ledger.specs.View.{rulebook, standingOf};
+ghost use Rattle.ledger.specs.Words.{By-the-table};
+
+mod carrying;
+mod judging;
+pub mod trade;
+pub mod trades;
+
+use answers::Fault;
+use answers::Refusal;
+use book::Book;
+use instruction::Instruction;
+use instruction::Kind;
+use trade::State;
+use trades::Trades;
+
+// Any register and any cash book, with the trades between their accounts.
+#[derive(Drop)]
+pub struct Ledger<R: Book, C: Book> {
+    trades: Trades,
+    register: R,
+    cash: C,
+}
+
+// A refusal names the trade of an instruction that is about one.
+fn fault_of(x: &Instruction, refusal: Refusal) -> Fault
+    ensures { λ r. ⌜ r ≡ faultOf (now (x .entry)) refusal ⌝ }
+{
+    match Kind::from_code(x.kind) {
+        Some(Kind::Enter | Kind::Earmark | Kind::Fund | Kind::Settle | Kind::Free) => Fault::on_trade(refusal, x.trade),
+        _ => Fault::plain(refusal),
+    }
+}
+
+impl<R: Book, C: Book> Ledger<R, C> {
+    // Clears the books: no instruction was accepted yet.
+    pub fn new(register: R, cash: C) -> Ledger<R, C>
+        ensures { λ r. ⌜ standingOf (R·Book .holdings) (C·Book .holdings) r ≡ empty ⌝ }
+    {
+        let mut register = register;
+        let mut cash = cash;
+        register.clear();
+        cash.clear();
+        Ledger { trades: Trades::new(), register, cash }
+    }
+
+    // What the rules answer to an instruction now; nothing changes.
+    pub fn judge(&self, x: &Instruction) -> Result<(), Fault>
+        ensures { λ r. ⌜ r ≡ verdict (rulebook (R·Book .fixed) (C·Book .fixed)) (standingOf (R·Book .holdings) (C·Book .holdings) (now (self .entry))) (now (x .entry)) ⌝ }
+    {
+        let Some(kind) = Kind::from_code(x.kind) else {
+            return Err(Fault::plain(Refusal::UnknownKind));
+        };
+        match self.ruling(kind, x) {
+            Ok(()) => Ok(()),
+            Err(refusal) => Err(fault_of(x, refusal)),
+        }
+    }
+
+    // Judges an instruction, and carries it out where the rules accept it. A ledger that was made new and given
+    // instructions is one that accepted instructions led to, so there is no step of it that the clause leaves out.
+    pub fn instruct(&mut self, x: &Instruction) -> Result<(), Fault>
+        ensures answer { λ r. ⌜ r ≡ verdict (rulebook (R·Book .fixed) (C·Book .fixed)) (standingOf (R·Book .holdings) (C·Book .holdings) (now (self .entry))) (now (x .entry)) ⌝ }
+        ensures after { λ _. ⌜ (Reached (rulebook (R·Book .fixed) (C·Book .fixed)) (standingOf (R·Book .holdings) (C·Book .holdings) (now (self .entry))) → standingOf (R·Book .holdings) (C·Book .holdings) (now (self .exit)) ≡ step (rulebook (R·Book .fixed) (C·Book .fixed)) (standingOf (R·Book .holdings) (C·Book .holdings) (now (self .entry))) (now (x .entry))) ⌝ }
+        ensures table { λ _. ⌜ By-the-table (rulebook (R·Book .fixed) (C·Book .fixed)) (standingOf (R·Book .holdings) (C·Book .holdings) (now (self .entry))) (now (x .entry)) ⌝ }
+    {
+        let Some(kind) = Kind::from_code(x.kind) else {
+            return Err(Fault::plain(Refusal::UnknownKind));
+        };
+        match self.ruling(kind, x) {
+            Ok(()) => {
+                self.carry_out(kind, x);
+                Ok(())
+            }
+            Err(refusal) => Err(fault_of(x, refusal)),
+        }
+    }
+
+    // The state of a trade.
+    pub fn trade_state(&self, number: u32) -> Result<State, Refusal>
+        ensures { λ r. ⌜ r ≡ stateQuestion (standingOf (R·Book .holdings) (C·Book .holdings) (now (self .entry)) .state) number ⌝ }
+    {
+        if number >= 128 {
+            return Err(Refusal::NoTrade);
+        }
+        Ok(self.trades.at(number).state)
+    }
+
+    pub fn register(&self) -> &R
+        ensures { λ r. ⌜ now r ≡ now (self .entry) .register ⌝ }
+    {
+        &self.register
+    }
+
+    pub fn cash(&self) -> &C
+        ensures { λ r. ⌜ now r ≡ now (self .entry) .cash ⌝ }
+    {
+        &self.cash
+    }
+
+    // Gives the books back.
+    pub fn into_books(self) -> (R, C)
+        ensures { λ r. ⌜ r ≡ (self .register, self .cash) ⌝ }
+    {
+        let Ledger { trades: _, register, cash } = self;
+        (register, cash)
+    }
+}
