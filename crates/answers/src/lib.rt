@@ -98,14 +98,26 @@ impl Fault {
     pub fn plain(refusal: Refusal) -> Fault
         ensures { λ r. ⌜ r ≡ plain refusal ⌝ }
     {
-        Fault { refusal, block: None, entry: None, trade: None, rule: None }
+        Fault {
+            refusal,
+            block: None,
+            entry: None,
+            trade: None,
+            rule: None,
+        }
     }
 
     // A refusal of an instruction that names a trade.
     pub fn on_trade(refusal: Refusal, trade: u32) -> Fault
         ensures { λ r. ⌜ r ≡ onTrade refusal trade ⌝ }
     {
-        Fault { refusal, block: None, entry: None, trade: Some(trade), rule: None }
+        Fault {
+            refusal,
+            block: None,
+            entry: None,
+            trade: Some(trade),
+            rule: None,
+        }
     }
 
     pub fn number(&self) -> u8

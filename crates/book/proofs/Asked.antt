@@ -21,7 +21,7 @@ holding-is k b a i h la li e = let w = asked-within k (holdingAt b) a i la li in
 
 -- an account's amounts, with those of the accounts before it, are within the item's total
 pub amount-fits : (b : Holdings) (a i : ℕ) (h : Holding) (sum most : ℕ) → a < 64 → h ≡ holdingAt b a i → total b i ≤ most
-  → sum ≡ upTo a (λ a. b .free a i + b .blocked a i) → sum + (h .free + h .blocked) ≤ most
+    → sum ≡ upTo a (λ a. b .free a i + b .blocked a i) → sum + (h .free + h .blocked) ≤ most
 amount-fits b a i h sum most l e w s =
     let n = upTo-next-le 64 a (λ a. b .free a i + b .blocked a i) l in
     let f : h .free ≡ b .free a i = ap (λ h. h .free) e in

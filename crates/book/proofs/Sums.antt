@@ -20,16 +20,16 @@ unfolding upTo
 upTo-change zero t f g l h = omega arith
 upTo-change (suc n) t f g l h =
     ⊎-elim (λ e. let s = upTo-same n f g (λ k m. h k (omega arith)) in
-                 let p : f t ≡ f n = ap f (sym e) in
-                 let q : g t ≡ g n = ap g (sym e) in omega arith)
-           (λ ne. omega (arith, upTo-change n t f g (omega arith) h, h n ne)) (cases-eq n t)
+    let p : f t ≡ f n = ap f (sym e) in
+    let q : g t ≡ g n = ap g (sym e) in omega arith)
+    (λ ne. omega (arith, upTo-change n t f g (omega arith) h, h n ne)) (cases-eq n t)
 
 pub upTo-le : (n t : ℕ) (f : ℕ → ℕ) → t < n → f t ≤ upTo n f
 unfolding upTo
 upTo-le zero t f l = omega arith
 upTo-le (suc n) t f l =
     ⊎-elim (λ e. let q : f t ≡ f n = ap f (sym e) in omega arith)
-           (λ ne. omega (arith, upTo-le n t f (omega arith))) (cases-eq n t)
+    (λ ne. omega (arith, upTo-le n t f (omega arith))) (cases-eq n t)
 
 pub upTo-zero : (n : ℕ) (f : ℕ → ℕ) → ((k : ℕ) → f k ≡ 0) → upTo n f ≡ 0
 unfolding upTo
@@ -55,4 +55,4 @@ unfolding upTo
 upTo-next-le zero k f l = omega arith
 upTo-next-le (suc n) k f l =
     ⊎-elim (λ (e : n ≡ k). let p : upTo n f ≡ upTo k f = ap (λ m. upTo m f) e in let q : f n ≡ f k = ap f e in omega arith)
-           (λ ne. omega (arith, upTo-next-le n k f (omega arith))) (cases-eq n k)
+    (λ ne. omega (arith, upTo-next-le n k f (omega arith))) (cases-eq n k)

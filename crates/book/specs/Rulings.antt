@@ -19,7 +19,6 @@ abbrev pub _refuses_ : Bool → Refusal → Check
 b refuses r = record { fails = b; refusal = r }
 
 infix 69 _refuses_
-
 -- the answer of checks in order: the first that holds refuses
 abbrev pub first : List Check → Result (Unit {0}) Refusal
 first [] = Ok tt

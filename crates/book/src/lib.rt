@@ -5,7 +5,6 @@ ghost use mathlib.Core.Logic.{_⊎_};
 ghost use Prim.Native.Nat.{ℕ, _<_, _≤_, _^_};
 ghost use Rattle.book.specs.Holdings.{Holdings, BookKind, nothing, limit, total, crediting, blocking, releasing, moving};
 ghost use Rattle.book.specs.Rulings.{ruling, outcome, asked, holdingAt, totalled};
-
 use answers::Refusal;
 
 // An account's free and blocked amount of one item.

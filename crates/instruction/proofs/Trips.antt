@@ -57,7 +57,7 @@ passes : (bs : List ℕ) → Is-instruction bs → (eqb (length bs) 32 && unused
 passes bs s = rw (s .long, s .one, s .ten, s .eleven)
 
 reads-cases : (bs : List ℕ) → ((i : ℕ) → getD bs i 0 < 256) → (t : Bool) → (eqb (length bs) 32 && unusedZero bs) ≡ t
-  → Reads bs (cond t (Ok (fields bs)) (Err Malformed))
+    → Reads bs (cond t (Ok (fields bs)) (Err Malformed))
 reads-cases bs h true e = let s = is-instruction bs e in (s, laid-back bs h s)
 reads-cases bs h false e = (refl, λ s. let z : true ≡ false = sym (passes bs s) ∙ e in let y : _≡_ {A = ℕ} 0 1 = cc in omega arith)
 

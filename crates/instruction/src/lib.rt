@@ -5,9 +5,13 @@ ghost use lib.ListN.{length};
 ghost use Rattle.std.specs.declared.result.Result.the-variants.{Ok};
 ghost use Rattle.instruction.specs.Kinds.{codeOf, kindAt, Kinds-and-codes};
 ghost use Rattle.instruction.specs.Layout.{bytesOf, instructionIn, field, Reads};
-
 use answers::Refusal;
-use bytes::{read16, read32, read64, write16, write32, write64};
+use bytes::read16;
+use bytes::read32;
+use bytes::read64;
+use bytes::write16;
+use bytes::write32;
+use bytes::write64;
 
 // What an instruction asks for.
 #[derive(Clone, Copy, PartialEq, Debug)]
@@ -74,8 +78,38 @@ impl Instruction {
         let [q0, q1, q2, q3, q4, q5, q6, q7] = write64(self.quantity);
         let [m0, m1, m2, m3, m4, m5, m6, m7] = write64(self.amount);
         [
-            self.kind, 0, a0, a1, b0, b1, i0, i1, c0, c1, 0, 0, t0, t1, t2, t3, q0, q1, q2, q3, q4, q5, q6, q7, m0, m1, m2, m3, m4,
-            m5, m6, m7,
+            self.kind,
+            0,
+            a0,
+            a1,
+            b0,
+            b1,
+            i0,
+            i1,
+            c0,
+            c1,
+            0,
+            0,
+            t0,
+            t1,
+            t2,
+            t3,
+            q0,
+            q1,
+            q2,
+            q3,
+            q4,
+            q5,
+            q6,
+            q7,
+            m0,
+            m1,
+            m2,
+            m3,
+            m4,
+            m5,
+            m6,
+            m7,
         ]
     }
 
@@ -121,5 +155,14 @@ fn field64(b: &[u8], at: usize) -> u64
     requires { ⌜ at + 8 ≤ length (now b) ⌝ }
     ensures { λ r. ⌜ r ≡ field at 8 (now (b .entry)) ⌝ }
 {
-    read64([b[at], b[at + 1], b[at + 2], b[at + 3], b[at + 4], b[at + 5], b[at + 6], b[at + 7]])
+    read64([
+        b[at],
+        b[at + 1],
+        b[at + 2],
+        b[at + 3],
+        b[at + 4],
+        b[at + 5],
+        b[at + 6],
+        b[at + 7],
+    ])
 }

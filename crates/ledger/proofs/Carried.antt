@@ -16,8 +16,8 @@ use Rattle.answers.specs.declared.Refusal.{Refusal}
 use Rattle.instruction.specs.declared.Kind.the-variants.{Issue, PayIn, Enter, Earmark, Fund, Settle, Free}
 use Rattle.instruction.specs.declared.Instruction.{Instruction}
 use Rattle.instruction.specs.Kinds.{kindAt}
-use Rattle.book.specs.Holdings.{Holdings, BookKind, Deed, apply}
-use Rattle.book.specs.Rulings.{first, ruling, onOk, outcome}
+use Rattle.book.specs.Holdings.{Holdings}
+use Rattle.book.specs.Rulings.{first, onOk, outcome}
 use Rattle.ledger.specs.declared.trade.State.{State}
 use Rattle.ledger.specs.declared.trade.State.the-variants.{Entered, Earmarked, Funded, Settled, Freed}
 use Rattle.ledger.specs.declared.trade.Terms.{Terms}
@@ -30,6 +30,7 @@ use Rattle.ledger.specs.Rows.{blank, stateAt, termsAt, put, rowsAfter}
 use Rattle.ledger.proofs.Checks.{right}
 use Rattle.ledger.proofs.Views.{standing-same}
 use Rattle.ledger.proofs.Carries.{carried-out}
+use Rattle.book.proofs.Accepted.{outcome-ok}
 
 -- where a kind of a trade may start, the table leads on
 next-after : (k : Act) (o : State) → starts k o ≡ true → next k o ≡ after k
@@ -43,9 +44,9 @@ module _ (rows : List Trade) (t : ℕ) (trade : Trade) (whole : length rows ≡ 
       let l : t < length rows = omega arith in
       ap (λ z. getD z u blank) p ∙
       ⊎-elim (λ (e : t ≡ u). subst (λ v. getD (set rows t trade) v blank ≡ cond (eqb t v) trade (getD rows v blank)) e
-                (getD-set-same rows t trade blank l ∙ sym (cond-true (eqb t t) trade (getD rows t blank) (eq-eqb t t refl))))
-             (λ ne. getD-set-other rows t u trade blank (λ e. ne (sym e)) ∙ sym (cond-false (eqb t u) trade (getD rows u blank) (ne-eqb t u ne)))
-             (cases-eq t u)
+      (getD-set-same rows t trade blank l ∙ sym (cond-true (eqb t t) trade (getD rows t blank) (eq-eqb t t refl))))
+      (λ ne. getD-set-other rows t u trade blank (λ e. ne (sym e)) ∙ sym (cond-false (eqb t u) trade (getD rows u blank) (ne-eqb t u ne)))
+      (cases-eq t u)
 
   split : {X : Type 0} (f : Trade → X) (b : Bool) (v w : Trade) → f (cond b v w) ≡ cond b (f v) (f w)
   split f true v w = refl
@@ -61,7 +62,7 @@ module _ (rows : List Trade) (t : ℕ) (trade : Trade) (whole : length rows ≡ 
 same-terms : (f : ℕ → Terms) (t u : ℕ) → at f t (f t) u ≡ f u
 same-terms f t u =
     ⊎-elim (λ (e : eqb t u ≡ true). cond-true (eqb t u) (f t) (f u) e ∙ ap f (eqb-true t u e))
-           (λ (e : eqb t u ≡ false). cond-false (eqb t u) (f t) (f u) e) (cases-bool (eqb t u))
+    (λ (e : eqb t u ≡ false). cond-false (eqb t u) (f t) (f u) e) (cases-bool (eqb t u))
 
 -- the table after an accepted instruction
 pub record Turned (k : Act) (x : Instruction) (rows after-rows : List Trade) : Type 0 where
@@ -74,7 +75,7 @@ module _ (rows : List Trade) (x : Instruction) (whole : length rows ≡ 128) whe
 
   -- the trade starts, and its new state is put
   moved : (k : Act) (p : State) → after k ≡ Some p → starts k o ≡ true
-    → rowsAfter k x rows ≡ put rows (x .trade) (record { state = p; terms = cond (isEnter k) (termsOf x) (termsAt rows (x .trade)) })
+      → rowsAfter k x rows ≡ put rows (x .trade) (record { state = p; terms = cond (isEnter k) (termsOf x) (termsAt rows (x .trade)) })
   moved k p e w = let n : next k o ≡ Some p = next-after k o w ∙ e in rw n
 
   keeps-terms : (k : Act) (p : State) → after k ≡ Some p → isEnter k ≡ false → starts k o ≡ true → x .trade < 128 → Turned k x rows (rowsAfter k x rows)
@@ -84,7 +85,7 @@ module _ (rows : List Trade) (x : Instruction) (whole : length rows ≡ 128) whe
       rw (moved k p e w) (record {
         states = λ u. put-state rows (x .trade) v whole l u ∙ ap (λ a. turned a (stateAt rows) (x .trade) u) (sym e);
         terms = λ u. put-terms rows (x .trade) v whole l u ∙ ap (λ m. at (termsAt rows) (x .trade) m u) q
-          ∙ same-terms (termsAt rows) (x .trade) u ∙ ap (λ b. termsAfter b (termsAt rows) x u) (sym i);
+            ∙ same-terms (termsAt rows) (x .trade) u ∙ ap (λ b. termsAfter b (termsAt rows) x u) (sym i);
       })
 
   pub turned-rows : (h : Rulebook) (k : Act) (m : Terms) (s : Standing) → first (allChecks h k o m s x) ≡ Ok tt → Turned k x rows (rowsAfter k x rows)
@@ -103,28 +104,24 @@ module _ (rows : List Trade) (x : Instruction) (whole : length rows ≡ 128) whe
   turned-rows h (Some Settle) m s p = let r = right h (Some Settle) o m s x tt p in keeps-terms (Some Settle) Settled refl refl (r .from) (r .low)
   turned-rows h (Some Free) m s p = let r = right h (Some Free) o m s x tt p in keeps-terms (Some Free) Freed refl refl (r .from) (r .low)
 
--- an accepted deed is done
-done : (k : BookKind) (b : Holdings) (w : Deed) → ruling k b w ≡ Ok tt → outcome k b w ≡ apply b w
-done k b w e = rw e
-
 -- What carrying out leaves is what the rules say, wherever accepted instructions led to the standing before.
 pub carried : (h : Rulebook) (r c r′ c′ : Holdings) (rows rows′ : List Trade) (x : Instruction) (k : Act) → kindAt (x .kind) ≡ k → length rows ≡ 128
-  → Reached h (standing r c rows) → answer h (standing r c rows) x ≡ Ok tt
-  → r′ ≡ outcome (h .kind securities) r (deed k securities (stateAt rows (x .trade)) (termsAt rows (x .trade)) x)
-  → c′ ≡ outcome (h .kind cash) c (deed k cash (stateAt rows (x .trade)) (termsAt rows (x .trade)) x)
-  → rows′ ≡ rowsAfter k x rows → standing r′ c′ rows′ ≡ effect (standing r c rows) x
+    → Reached h (standing r c rows) → answer h (standing r c rows) x ≡ Ok tt
+    → r′ ≡ outcome (h .kind securities) r (deed k securities (stateAt rows (x .trade)) (termsAt rows (x .trade)) x)
+    → c′ ≡ outcome (h .kind cash) c (deed k cash (stateAt rows (x .trade)) (termsAt rows (x .trade)) x)
+    → rows′ ≡ rowsAfter k x rows → standing r′ c′ rows′ ≡ effect (standing r c rows) x
 carried h r c r′ c′ rows rows′ x k kk whole (xs, run) ok er ec e =
     let s = standing r c rows in
     let takes = carried-out h xs s x run ok in
     let a = subst (λ k. first (allChecks h k (stateAt rows (x .trade)) (termsAt rows (x .trade)) s x) ≡ Ok tt) kk ok in
     let tr = turned-rows rows x whole h k (termsAt rows (x .trade)) s a in
-    let dr = done (h .kind securities) r (deed (kindAt (x .kind)) securities (stateAt rows (x .trade)) (termsAt rows (x .trade)) x) (takes securities) in
-    let dc = done (h .kind cash) c (deed (kindAt (x .kind)) cash (stateAt rows (x .trade)) (termsAt rows (x .trade)) x) (takes cash) in
+    let dr = sym (outcome-ok (h .kind securities) r (deed (kindAt (x .kind)) securities (stateAt rows (x .trade)) (termsAt rows (x .trade)) x) (sym (takes securities))) in
+    let dc = sym (outcome-ok (h .kind cash) c (deed (kindAt (x .kind)) cash (stateAt rows (x .trade)) (termsAt rows (x .trade)) x) (sym (takes cash))) in
     standing-same r′ c′ rows′ (effect s x)
-      (er ∙ ap (λ k. outcome (h .kind securities) r (deed k securities (stateAt rows (x .trade)) (termsAt rows (x .trade)) x)) (sym kk) ∙ dr)
-      (ec ∙ ap (λ k. outcome (h .kind cash) c (deed k cash (stateAt rows (x .trade)) (termsAt rows (x .trade)) x)) (sym kk) ∙ dc)
-      (λ u. ap (λ z. stateAt z u) e ∙ tr .states u ∙ ap (λ k. turned (after k) (stateAt rows) (x .trade) u) (sym kk))
-      (λ u. ap (λ z. termsAt z u) e ∙ tr .terms u ∙ ap (λ k. termsAfter (isEnter k) (termsAt rows) x u) (sym kk))
+    (er ∙ ap (λ k. outcome (h .kind securities) r (deed k securities (stateAt rows (x .trade)) (termsAt rows (x .trade)) x)) (sym kk) ∙ dr)
+    (ec ∙ ap (λ k. outcome (h .kind cash) c (deed k cash (stateAt rows (x .trade)) (termsAt rows (x .trade)) x)) (sym kk) ∙ dc)
+    (λ u. ap (λ z. stateAt z u) e ∙ tr .states u ∙ ap (λ k. turned (after k) (stateAt rows) (x .trade) u) (sym kk))
+    (λ u. ap (λ z. termsAt z u) e ∙ tr .terms u ∙ ap (λ k. termsAfter (isEnter k) (termsAt rows) x u) (sym kk))
 
 -- a refused instruction changes nothing
 pub refused : (h : Rulebook) (s : Standing) (x : Instruction) (f : Refusal) → answer h s x ≡ Err f → step h s x ≡ s

@@ -71,9 +71,8 @@ module _ (h : Rulebook) (s : Standing) (z : Safe h s) (x : Instruction) where
   takes (Some Free) d o e p =
       let r = right h (Some Free) o m s x tt p in
       ⊎-elim (λ (y : holds d o ≡ true). rw y (may-release d (good (Some Free) o e refl (r .from)) (holding-still d o (r .low) e y)))
-             (λ (y : holds d o ≡ false). rw y) (cases-bool (holds d o))
+      (λ (y : holds d o ≡ false). rw y) (cases-bool (holds d o))
   takes None d o e p = refl
-
 
 pub carried-out : (h : Rulebook) (xs : List Instruction) (s : Standing) (x : Instruction) → Runs h xs s → Carried-out h s x
 carried-out h xs s x r e d = takes h s (safe h xs s r) x (kindAt (x .kind)) d (s .state (x .trade)) refl e

@@ -14,6 +14,7 @@ use Rattle.instruction.specs.declared.Kind.the-variants.{Issue, PayIn, Enter, E
 use Rattle.instruction.specs.declared.Instruction.{Instruction}
 use Rattle.instruction.specs.Kinds.{codeOf, kindAt}
 use Rattle.book.specs.Rulings.{Check, first}
+use Rattle.book.proofs.Accepted.{Clear, clear}
 use Rattle.ledger.specs.declared.trade.State.{State}
 use Rattle.ledger.specs.declared.trade.State.the-variants.{Unentered, Entered}
 use Rattle.ledger.specs.declared.trade.Terms.{Terms}
@@ -22,26 +23,13 @@ use Rattle.ledger.specs.Terms.{Side, securities, cash}
 use Rattle.ledger.specs.Rules.{Rulebook, Standing, holds, isSettled, allChecks, isEnter}
 use Rattle.ledger.specs.Words.{OfTrade}
 
-abbrev pub Clear : List Check → Type 0
-Clear [] = Unit {0}
-Clear (c ∷ cs) = (c .fails ≡ false) × Clear cs
-
-pass : (b : Bool) (r : Refusal) (q : Result (Unit {0}) Refusal) → cond b (Err r) q ≡ Ok tt → (b ≡ false) × (q ≡ Ok tt)
-pass true r q e = absurd (let z : _≡_ {A = ℕ} 0 1 = cc in omega arith)
-pass false r q e = (refl, e)
-
--- where checks pass, each of them does
-pub clear : (cs : List Check) → first cs ≡ Ok tt → Clear cs
-clear [] e = tt
-clear (c ∷ cs) e = let p = pass (c .fails) (c .refusal) (first cs) e in (p .0, clear cs (p .1))
-
 pub passes : (cs : List Check) → Clear cs → first cs ≡ Ok tt
 passes [] c = refl
 passes (c ∷ cs) e = rw (e .0) (passes cs (e .1))
 
 module _ (h : Rulebook) (m : Terms) (s : Standing) (x : Instruction) where
   pub cleared : (k : Act) (o : State) → first (allChecks h k o m s x) ≡ Ok tt → Clear (allChecks h k o m s x)
-  cleared k o e = clear (allChecks h k o m s x) e
+  cleared k o e = clear (allChecks h k o m s x) (sym e)
 
 not-false : (b : Bool) → not b ≡ false → b ≡ true
 not-false true e = refl
@@ -98,14 +86,13 @@ was-entered h (Some Settle) o e w z = grind arith
 was-entered h (Some Free) o e w z = grind arith
 was-entered h None o e w z = true≢false (sym w)
 
-
 -- the kind byte of an Enter
 pub enter-code : (n : ℕ) → isEnter (kindAt n) ≡ eqb n (codeOf Enter)
 enter-code n = grind arith
 
 -- a refusal of the first two checks stands whatever comes after them
 pub refused-first : {X Y : Type 0} (a b : Bool) (p q f : Refusal) (v : X) (w : Result Y Refusal)
-  → Err f ≡ cond a (Err p) (cond b (Err q) (Ok v)) → Err f ≡ cond a (Err p) (cond b (Err q) w)
+    → Err f ≡ cond a (Err p) (cond b (Err q) (Ok v)) → Err f ≡ cond a (Err p) (cond b (Err q) w)
 refused-first true b p q f v w e = let z : f ≡ p = cc in ap (λ r. Err r) z
 refused-first false true p q f v w e = let z : f ≡ q = cc in ap (λ r. Err r) z
 refused-first false false p q f v w e = absurd (let z : _≡_ {A = ℕ} 0 1 = cc in omega arith)

@@ -65,7 +65,7 @@ last (y ∷ xs) zs f x t o h = last xs zs (readState f y) x t o h
 terms-kept : (f : ℕ → Terms) (x : Instruction) (t : ℕ) → (EnterOn t x → ⊥) → readTerms f x t ≡ f t
 terms-kept f x t h =
     ⊎-elim (λ (e : eqb (x .kind) (codeOf Enter) ≡ true). rw (enter-code (x .kind), e) (at-other f (x .trade) t (termsOf x) (λ w. h (eqb-true _ _ e, w))))
-           (λ (e : eqb (x .kind) (codeOf Enter) ≡ false). rw (enter-code (x .kind), e)) (cases-bool (eqb (x .kind) (codeOf Enter)))
+    (λ (e : eqb (x .kind) (codeOf Enter) ≡ false). rw (enter-code (x .kind), e)) (cases-bool (eqb (x .kind) (codeOf Enter)))
 
 terms-set : (f : ℕ → Terms) (x : Instruction) (t : ℕ) → EnterOn t x → readTerms f x t ≡ termsOf x
 terms-set f x t o = rw (enter-code (x .kind), eq-eqb (x .kind) (codeOf Enter) (o .0)) (at-same f (x .trade) t (termsOf x) (o .1))
@@ -86,7 +86,6 @@ last-words =
       terms = λ xs zs x t o h. last-terms xs zs (λ u. noTerms) x t o h;
     }
 
-
 pub leads : (h : Rulebook) {xs : List Instruction} {s : Standing} → Runs h xs s → s ≡ standingAfter xs
 leads h start = refl
 leads h (more {xs = xs} {s = s} x r e) = ap (λ z. effect z x) (leads h r) ∙ sym (folded-push effect empty xs x)
@@ -99,7 +98,7 @@ steps k o p f t e w =
     subst (λ q. Steps o k q) (sym v) (state-table .only o p k n)
 
 moves-as : (h : Rulebook) (s : Standing) (x : Instruction) (k : Kind) → OfTrade (Some k) → first (allChecks h (Some k) (s .state (x .trade)) (s .terms (x .trade)) s x) ≡ Ok tt
-  → Steps (s .state (x .trade)) k (turned (after (Some k)) (s .state) (x .trade) (x .trade))
+    → Steps (s .state (x .trade)) k (turned (after (Some k)) (s .state) (x .trade) (x .trade))
 moves-as h s x Issue t p = absurd t
 moves-as h s x PayIn t p = absurd t
 moves-as h s x Enter t p = steps Enter (s .state (x .trade)) Entered (s .state) (x .trade) refl (right h (Some Enter) (s .state (x .trade)) (s .terms (x .trade)) s x t p .from)
@@ -112,6 +111,6 @@ pub by-the-table : (h : Rulebook) (s : Standing) (x : Instruction) → By-the-ta
 by-the-table h s x = record {
   table = state-table;
   moves = λ ok k e t.
-    let m = moves-as h s x k t (subst (λ a. first (allChecks h a (s .state (x .trade)) (s .terms (x .trade)) s x) ≡ Ok tt) e ok) in
-    subst (λ a. Steps (s .state (x .trade)) k (turned (after a) (s .state) (x .trade) (x .trade))) (sym e) m;
+      let m = moves-as h s x k t (subst (λ a. first (allChecks h a (s .state (x .trade)) (s .terms (x .trade)) s x) ≡ Ok tt) e ok) in
+      subst (λ a. Steps (s .state (x .trade)) k (turned (after a) (s .state) (x .trade) (x .trade))) (sym e) m;
 }

@@ -34,8 +34,8 @@ module _ (P : Terms → Type 0) (st : ℕ → State) (tm : ℕ → Terms) (h : (
   set-on : (t : ℕ) (old new : State) → st t ≡ old → (old ≡ Unentered → ⊥) → (u : ℕ) → (at st t new u ≡ Unentered) ⊎ P (tm u)
   set-on t old new e ne u =
       ⊎-elim (λ (y : eqb t u ≡ true).
-                ⊎-elim (λ n. absurd (ne (sym e ∙ ap st (eqb-true t u y) ∙ n))) (λ p. inr p) (h u))
-             (λ (y : eqb t u ≡ false). rw y (h u)) (cases-bool (eqb t u))
+      ⊎-elim (λ n. absurd (ne (sym e ∙ ap st (eqb-true t u y) ∙ n))) (λ p. inr p) (h u))
+      (λ (y : eqb t u ≡ false). rw y (h u)) (cases-bool (eqb t u))
 
 module _ (h : Rulebook) where
   proper-step : (s : Standing) (x : Instruction) → ((t : ℕ) → (s .state t ≡ Unentered) ⊎ Proper h (s .terms t)) → (k : Act) (o : State) → s .state (x .trade) ≡ o → first (allChecks h k o (s .terms (x .trade)) s x) ≡ Ok tt → (t : ℕ) → (turned (after k) (s .state) (x .trade) t ≡ Unentered) ⊎ Proper h (termsAfter (isEnter k) (s .terms) x t)
@@ -81,7 +81,6 @@ module _ (h : Rulebook) where
       let q = covers d (s .book d) (s .state) (s .terms) (credits d xs (giver d m) (asset d m)) (giver d m) (asset d m) t o Unentered l e f ho (holds-not d) in
       let w : only (here (giver d m) (asset d m) (giver d m) (asset d m)) (volume d m) ≡ volume d m = rw (eq-eqb (giver d m) (giver d m) refl, eq-eqb (asset d m) (asset d m) refl) in
       omega (arith, q, w)
-
 
 pub safe : (h : Rulebook) (xs : List Instruction) (s : Standing) → Runs h xs s → Safe h s
 safe h xs s r = record { proper = proper h r; covered = λ d t l y. found h r d t (s .state t) l refl y }

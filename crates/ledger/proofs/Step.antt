@@ -20,7 +20,8 @@ use Rattle.ledger.specs.Terms.{Side, securities, cash, giver, taker, asset, vo
 use Rattle.ledger.specs.Rules.{Rulebook, Standing, holds, isSettled, allChecks, at, turned, isEnter, termsAfter, deed}
 use Rattle.ledger.specs.Tally.{giveOf, takeOf, holdOf, over, held}
 use Rattle.ledger.proofs.Checks.{cleared, right, Idle, enter-idle, entered-idle, earmark-idle, fund-from, settle-from, free-from}
-use Rattle.ledger.proofs.Fair.{enough, enters, shift-if}
+use Rattle.book.proofs.Totals.{enough}
+use Rattle.ledger.proofs.Fair.{enters, shift-if}
 
 pub record Fair (d : Side) (b : Holdings) (st : ℕ → State) (tm : ℕ → Terms) (cr a i : ℕ) : Type 0 where
   pub whole : b .free a i + b .blocked a i + over (giveOf d a i) st tm ≡ cr + over (takeOf d a i) st tm
@@ -150,7 +151,7 @@ module _ (h : Rulebook) (s : Standing) (x : Instruction) (a i : ℕ) where
       let w = free-from h o (r .from) in
       uncredited _ _ _ _ _ _ _ n c
       (⊎-elim (λ (y : holds d o ≡ true). subst (λ v. Fair d (apply (s .book d) (cond v (releasing (giver d m) (asset d m) (volume d m)) keep)) (at (s .state) (x .trade) Freed) (s .terms) cr a i) (sym y)
-                (releases d (s .book d) (s .state) (s .terms) cr a i (x .trade) o Freed (r .low) e f w refl y (holds-freed d)))
-              (λ (y : holds d o ≡ false). subst (λ v. Fair d (apply (s .book d) (cond v (releasing (giver d m) (asset d m) (volume d m)) keep)) (at (s .state) (x .trade) Freed) (s .terms) cr a i) (sym y)
-                (kept d (s .book d) (s .state) (s .terms) cr a i (x .trade) o Freed (r .low) e f false w refl y (holds-freed d)))
-              (cases-bool (holds d o)))
+      (releases d (s .book d) (s .state) (s .terms) cr a i (x .trade) o Freed (r .low) e f w refl y (holds-freed d)))
+      (λ (y : holds d o ≡ false). subst (λ v. Fair d (apply (s .book d) (cond v (releasing (giver d m) (asset d m) (volume d m)) keep)) (at (s .state) (x .trade) Freed) (s .terms) cr a i) (sym y)
+      (kept d (s .book d) (s .state) (s .terms) cr a i (x .trade) o Freed (r .low) e f false w refl y (holds-freed d)))
+      (cases-bool (holds d o)))

@@ -18,7 +18,7 @@ replicated t = ⊎-elim (λ l. getD-replicate 128 t blank blank l) (λ p. getD-p
 
 -- books and trades that are equal at each place are the same standing
 pub standing-same : (r c : Holdings) (rows : List Trade) (s : Standing) → r ≡ s .book securities → c ≡ s .book cash
-  → ((t : ℕ) → stateAt rows t ≡ s .state t) → ((t : ℕ) → termsAt rows t ≡ s .terms t) → standing r c rows ≡ s
+    → ((t : ℕ) → stateAt rows t ≡ s .state t) → ((t : ℕ) → termsAt rows t ≡ s .terms t) → standing r c rows ≡ s
 standing-same r c rows s er ec es em =
     let books : (d : Side) → bySide r c d ≡ s .book d = λ d. elim d as (λ d. bySide r c d ≡ s .book d) [ securities ↦ er | cash ↦ ec ] in
     λ k. record { book = λ d. books d k; state = λ t. es t k; terms = λ t. em t k }

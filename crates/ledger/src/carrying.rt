@@ -5,7 +5,6 @@ ghost use Rattle.book.specs.Rulings.{ruling, outcome};
 ghost use Rattle.ledger.specs.Terms.{securities, cash as money};
 ghost use Rattle.ledger.specs.Rules.{deed};
 ghost use Rattle.ledger.specs.Rows.{stateAt, termsAt, rowsAfter};
-
 use crate::Ledger;
 use crate::trade::State;
 use crate::trade::Trade;
@@ -15,7 +14,12 @@ use instruction::Instruction;
 use instruction::Kind;
 
 // What the instruction has the register do, and the register's answer.
-fn move_securities<B: Book>(register: &mut B, kind: Kind, trade: &Trade, x: &Instruction) -> Result<(), Refusal>
+fn move_securities<B: Book>(
+    register: &mut B,
+    kind: Kind,
+    trade: &Trade,
+    x: &Instruction,
+) -> Result<(), Refusal>
     ensures answer { λ r. ⌜ r ≡ ruling (B·Book .fixed) (B·Book .holdings (now (register .entry))) (deed (Some kind) securities (now (trade .entry) .state) (now (trade .entry) .terms) (now (x .entry))) ⌝ }
     ensures after { λ _. ⌜ B·Book .holdings (now (register .exit)) ≡ outcome (B·Book .fixed) (B·Book .holdings (now (register .entry))) (deed (Some kind) securities (now (trade .entry) .state) (now (trade .entry) .terms) (now (x .entry))) ⌝ }
 {
@@ -25,7 +29,11 @@ fn move_securities<B: Book>(register: &mut B, kind: Kind, trade: &Trade, x: &Ins
         Kind::Earmark => register.block(terms.seller, terms.item, terms.quantity),
         Kind::Settle => register.transfer(terms.seller, terms.buyer, terms.item, terms.quantity),
         Kind::Free => match trade.state {
-            State::Earmarked | State::Funded => register.release(terms.seller, terms.item, terms.quantity),
+            State::Earmarked | State::Funded => register.release(
+                terms.seller,
+                terms.item,
+                terms.quantity,
+            ),
             _ => Ok(()),
         },
         Kind::PayIn | Kind::Enter | Kind::Fund => Ok(()),
@@ -33,7 +41,12 @@ fn move_securities<B: Book>(register: &mut B, kind: Kind, trade: &Trade, x: &Ins
 }
 
 // What the instruction has the cash book do, and the cash book's answer.
-fn move_cash<B: Book>(cash: &mut B, kind: Kind, trade: &Trade, x: &Instruction) -> Result<(), Refusal>
+fn move_cash<B: Book>(
+    cash: &mut B,
+    kind: Kind,
+    trade: &Trade,
+    x: &Instruction,
+) -> Result<(), Refusal>
     ensures answer { λ r. ⌜ r ≡ ruling (B·Book .fixed) (B·Book .holdings (now (cash .entry))) (deed (Some kind) money (now (trade .entry) .state) (now (trade .entry) .terms) (now (x .entry))) ⌝ }
     ensures after { λ _. ⌜ B·Book .holdings (now (cash .exit)) ≡ outcome (B·Book .fixed) (B·Book .holdings (now (cash .entry))) (deed (Some kind) money (now (trade .entry) .state) (now (trade .entry) .terms) (now (x .entry))) ⌝ }
 {

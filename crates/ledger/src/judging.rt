@@ -9,7 +9,6 @@ ghost use Rattle.book.specs.Rulings.{first};
 ghost use Rattle.ledger.specs.Rules.{stray, enterChecks, tradeChecks, ownChecks, answerAs};
 ghost use Rattle.ledger.specs.Rows.{stateAt, startable};
 ghost use Rattle.ledger.specs.View.{rulebook, standingOf};
-
 use crate::Ledger;
 use crate::trade::Trade;
 use answers::Refusal;
@@ -21,7 +20,12 @@ use instruction::Kind;
 fn past_trade(x: &Instruction) -> bool
     ensures { λ r. ⌜ r ≡ stray (Some Kind.Earmark) (now (x .entry)) ⌝ }
 {
-    x.account != 0 || x.counterparty != 0 || x.item != 0 || x.currency != 0 || x.quantity != 0 || x.amount != 0
+    x.account != 0
+        || x.counterparty != 0
+        || x.item != 0
+        || x.currency != 0
+        || x.quantity != 0
+        || x.amount != 0
 }
 
 // A field that the kind does not use is not 0.
@@ -91,7 +95,8 @@ impl<R: Book, C: Book> Ledger<R, C> {
         ensures { λ r. ⌜ r ≡ first (ownChecks (rulebook (R·Book .fixed) (C·Book .fixed)) (Some Kind.Earmark) (standingOf (R·Book .holdings) (C·Book .holdings) (now (self .entry))) (now (x .entry))) ⌝ }
     {
         let trade = self.startable(Kind::Earmark, Refusal::WrongState, x.trade)?;
-        let free = self.register.available(trade.terms.seller, trade.terms.item);
+        let free = self.register
+            .available(trade.terms.seller, trade.terms.item);
         enough(free, trade.terms.quantity)
     }
 

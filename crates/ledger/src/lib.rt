@@ -31,21 +31,33 @@ fn fault_of(x: &Instruction, refusal: Refusal) -> Fault
     ensures { λ r. ⌜ r ≡ faultOf (now (x .entry)) refusal ⌝ }
 {
     match Kind::from_code(x.kind) {
-        Some(Kind::Enter | Kind::Earmark | Kind::Fund | Kind::Settle | Kind::Free) => Fault::on_trade(refusal, x.trade),
+        Some(Kind::Enter | Kind::Earmark | Kind::Fund | Kind::Settle | Kind::Free) =>
+            Fault::on_trade(refusal, x.trade),
         _ => Fault::plain(refusal),
     }
 }
 
 impl<R: Book, C: Book> Ledger<R, C> {
-    // Clears the books: no instruction was accepted yet.
+    // A ledger over these books, cleared: no instruction was accepted yet.
     pub fn new(register: R, cash: C) -> Ledger<R, C>
         ensures { λ r. ⌜ standingOf (R·Book .holdings) (C·Book .holdings) r ≡ empty ⌝ }
     {
-        let mut register = register;
-        let mut cash = cash;
-        register.clear();
-        cash.clear();
-        Ledger { trades: Trades::new(), register, cash }
+        let mut ledger = Ledger {
+            trades: Trades::new(),
+            register,
+            cash,
+        };
+        ledger.clear();
+        ledger
+    }
+
+    // All amounts become 0, and no trade was ever entered.
+    pub fn clear(&mut self)
+        ensures { λ _. ⌜ standingOf (R·Book .holdings) (C·Book .holdings) (now (self .exit)) ≡ empty ⌝ }
+    {
+        self.trades = Trades::new();
+        self.register.clear();
+        self.cash.clear();
     }
 
     // What the rules answer to an instruction now; nothing changes.
@@ -106,7 +118,11 @@ impl<R: Book, C: Book> Ledger<R, C> {
     pub fn into_books(self) -> (R, C)
         ensures { λ r. ⌜ r ≡ (self .register, self .cash) ⌝ }
     {
-        let Ledger { trades: _, register, cash } = self;
+        let Ledger {
+            trades: _,
+            register,
+            cash,
+        } = self;
         (register, cash)
     }
 }

@@ -4,11 +4,10 @@ ghost use Rattle.std.specs.declared.option.Option.the-variants.{Some};
 ghost use Rattle.ledger.specs.Table.{next as nextState};
 ghost use Rattle.ledger.specs.Terms.{termsOf};
 ghost use Rattle.ledger.specs.Rows.{turnedTrade};
-
 use instruction::Instruction;
 use instruction::Kind;
 
-#[derive(Clone, Copy, PartialEq, Debug)]
+#[derive(Clone, Copy)]
 pub enum State {
     Unentered,
     Entered,
@@ -19,7 +18,7 @@ pub enum State {
 }
 
 // The seller gives a quantity of an item, the buyer an amount of a currency.
-#[derive(Clone, Copy, PartialEq, Debug)]
+#[derive(Clone, Copy)]
 pub struct Terms {
     pub seller: u16,
     pub buyer: u16,
@@ -45,7 +44,7 @@ impl Terms {
     }
 }
 
-#[derive(Clone, Copy, PartialEq, Debug)]
+#[derive(Clone, Copy)]
 pub struct Trade {
     pub state: State,
     pub terms: Terms,
@@ -71,8 +70,14 @@ impl Trade {
     {
         let state = self.next(kind)?;
         match kind {
-            Kind::Enter => Some(Trade { state, terms: Terms::of(x) }),
-            _ => Some(Trade { state, terms: self.terms }),
+            Kind::Enter => Some(Trade {
+                state,
+                terms: Terms::of(x),
+            }),
+            _ => Some(Trade {
+                state,
+                terms: self.terms,
+            }),
         }
     }
 }

@@ -3,7 +3,6 @@
 ghost use mathlib.Core.Path.{_≡_};
 ghost use lib.ListN.{length, getD, replicate};
 ghost use Rattle.ledger.specs.Rows.{blank, put as putIn, putAnswer};
-
 use crate::trade::State;
 use crate::trade::Terms;
 use crate::trade::Trade;
@@ -17,7 +16,14 @@ pub struct Trades {
 
 const UNENTERED: Trade = Trade {
     state: State::Unentered,
-    terms: Terms { seller: 0, buyer: 0, item: 0, currency: 0, quantity: 0, amount: 0 },
+    terms: Terms {
+        seller: 0,
+        buyer: 0,
+        item: 0,
+        currency: 0,
+        quantity: 0,
+        amount: 0,
+    },
 };
 
 impl Trades {
@@ -25,14 +31,20 @@ impl Trades {
     pub fn new() -> Trades
         ensures { λ r. ⌜ r .rows ≡ replicate 128 blank ⌝ }
     {
-        Trades { rows: [UNENTERED; 128] }
+        Trades {
+            rows: [UNENTERED; 128],
+        }
     }
 
     // The trade with this number; past the last number, one that was never entered.
     pub fn at(&self, number: u32) -> Trade
         ensures { λ r. ⌜ r ≡ getD (now (self .entry) .rows) number blank ⌝ }
     {
-        if number < 128 { self.rows[number as usize] } else { UNENTERED }
+        if number < 128 {
+            self.rows[number as usize]
+        } else {
+            UNENTERED
+        }
     }
 
     pub fn put(&mut self, number: u32, trade: Trade) -> Result<(), Refusal>

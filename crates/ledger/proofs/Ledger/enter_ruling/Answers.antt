@@ -19,4 +19,4 @@ returns-in-Break-startable g c =
     let rows = c .args .self .now .trades .rows in
     let t = c .args .x .now .trade in
     rw (p .1, p .2) (refused-first (leb 128 t) (not (starts (Some Enter) (stateAt rows t))) NoTrade EverEntered _ (getD rows t blank)
-      (first (enterChecks (rulebook (g .R·Book .fixed) (g .C·Book .fixed)) (c .args .x .now))) (c .in-Break-startable .ensures tt))
+    (first (enterChecks (rulebook (g .R·Book .fixed) (g .C·Book .fixed)) (c .args .x .now))) (c .in-Break-startable .ensures tt))

@@ -32,7 +32,7 @@ returns-in-Ok g c =
       answer = sym (ap (withTrade x) a);
       after = λ reached. carried h _ _ _ _ (c .args .self .now .trades .rows) _ x (Some (c .in-Some .kind)) (sym (c .in-Some .ensures tt)) (c .args .self .now .trades .whole) reached a
           (c .carry-out .ensures .register) (c .carry-out .ensures .cash) (c .carry-out .ensures .trades)
-        ∙ sym (accepted h s x a);
+          ∙ sym (accepted h s x a);
       table = by-the-table h s x;
     }
 

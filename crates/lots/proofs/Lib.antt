@@ -1,0 +1,2 @@
+pub mod Lot
+pub mod Deeds

@@ -1,0 +1,4 @@
+pub mod Num
+pub mod Feeding
+pub mod Fields
+pub mod Reading
