@@ -9,10 +9,10 @@ use Rattle.std.specs.declared.result.Result.the-variants.{Ok, Err}
 use Rattle.answers.specs.declared.Refusal.{Refusal}
 use Rattle.instruction.specs.declared.Instruction.{Instruction}
 use Rattle.book.specs.Rulings.{onOk}
-use Rattle.ledger.specs.Table.{before}
-use Rattle.ledger.specs.Rules.{Rulebook, Standing, empty, answer, at, effect, start, more, Reached}
-use Rattle.ledger.specs.Law.{Balanced}
-use Rattle.ledger.specs.Words.{standingAfter}
+use Rattle.rulebook.specs.Table.{before}
+use Rattle.rulebook.specs.Rules.{Rulebook, Standing, empty, answer, at, effect, start, more, Reached}
+use Rattle.rulebook.specs.Law.{Balanced}
+use Rattle.rulebook.specs.Words.{standingAfter}
 use Rattle.std.proofs.shelf.Lists.{append-nil, take-all}
 use Rattle.script.specs.declared.Request.{Request}
 use Rattle.script.specs.declared.Request.the-variants.{Instruct, Register, Cash}

@@ -12,13 +12,13 @@ use Rattle.answers.specs.declared.Refusal.{Refusal}
 use Rattle.instruction.specs.declared.Instruction.{Instruction}
 use Rattle.book.specs.Holdings.{Holdings}
 use Rattle.book.specs.Rulings.{onOk, holdingAt}
-use Rattle.ledger.specs.Terms.{Side, securities, cash}
-use Rattle.ledger.specs.Rules.{Rulebook, Standing, empty, answer, withTrade, effect, Runs, start, more}
-use Rattle.ledger.specs.Law.{Balanced}
-use Rattle.ledger.specs.Words.{standingAfter}
+use Rattle.rulebook.specs.Terms.{Side, securities, cash}
+use Rattle.rulebook.specs.Rules.{Rulebook, Standing, empty, answer, withTrade, effect, Runs, start, more}
+use Rattle.rulebook.specs.Law.{Balanced}
+use Rattle.rulebook.specs.Words.{standingAfter}
 use Rattle.std.proofs.shelf.Lists.{append-nil}
-use Rattle.ledger.proofs.Whole.{law-of-the-ledger}
-use Rattle.ledger.proofs.Meanings.{leads, last-words}
+use Rattle.rulebook.proofs.Whole.{law-of-the-ledger}
+use Rattle.rulebook.proofs.Meanings.{leads, last-words}
 use Rattle.script.specs.declared.Position.{Position}
 use Rattle.script.specs.declared.Request.{Request}
 use Rattle.script.specs.declared.Request.the-variants.{Instruct, Register, Cash}

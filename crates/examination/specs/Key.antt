@@ -9,11 +9,11 @@ use Rattle.answers.specs.declared.Refusal.{Refusal}
 use Rattle.answers.specs.declared.Refusal.the-variants.{InputTooLong}
 use Rattle.instruction.specs.declared.Instruction.{Instruction}
 use Rattle.book.specs.declared.Holding.{Holding}
-use Rattle.ledger.specs.Terms.{Side, securities, cash}
-use Rattle.ledger.specs.Rules.{Rulebook, Standing, empty, Runs, Reached}
-use Rattle.ledger.specs.Tally.{credits, given, received, held}
-use Rattle.ledger.specs.Law.{Balanced}
-use Rattle.ledger.specs.Words.{standingAfter, Last-words}
+use Rattle.rulebook.specs.Terms.{Side, securities, cash}
+use Rattle.rulebook.specs.Rules.{Rulebook, Standing, empty, Runs, Reached}
+use Rattle.rulebook.specs.Tally.{credits, given, received, held}
+use Rattle.rulebook.specs.Law.{Balanced}
+use Rattle.rulebook.specs.Words.{standingAfter, Last-words}
 use Rattle.script.specs.declared.Position.{Position}
 use Rattle.script.specs.declared.Request.{Request}
 use Rattle.script.specs.declared.Request.the-variants.{Instruct, Register, Cash}

@@ -8,8 +8,8 @@ use Rattle.answers.specs.Faults.{plain}
 use Rattle.book.specs.declared.Holding.{Holding}
 use Rattle.book.specs.Holdings.{Holdings, BookKind}
 use Rattle.book.specs.Rulings.{asked, holdingAt}
-use Rattle.ledger.specs.Terms.{securities, cash}
-use Rattle.ledger.specs.Rules.{Rulebook, Standing, verdict, step}
+use Rattle.rulebook.specs.Terms.{securities, cash}
+use Rattle.rulebook.specs.Rules.{Rulebook, Standing, verdict, step}
 use Rattle.script.specs.declared.Position.{Position}
 use Rattle.script.specs.declared.Request.{Request}
 use Rattle.script.specs.declared.Request.the-variants.{Instruct, Register, Cash}

@@ -2,11 +2,11 @@
 ghost use mathlib.Core.Path.{_≡_};
 ghost use Rattle.std.specs.Of.Vec.{vec-items};
 ghost use Rattle.std.specs.declared.result.Result.the-variants.{Ok, Err};
-ghost use Rattle.ledger.specs.Rules.{Reached};
+ghost use Rattle.rulebook.specs.Rules.{Reached};
 ghost use Rattle.ledger.specs.View.{rulebook, standingOf};
 ghost use Rattle.script.specs.Requests.{requestIn};
 ghost use Rattle.script.specs.Feeds.{linesOf};
-ghost use Rattle.examination.specs.Replies.{reply, moved, holdingReply};
+ghost use Rattle.examination.specs.Replies.{reply, moved, heldReply};
 ghost use Rattle.examination.specs.Key.{Keyed, Stopped};
 
 pub mod text;
@@ -17,7 +17,6 @@ use book::Book;
 use book::Holding;
 use ledger::Ledger;
 use script::Lines;
-use script::Position;
 use script::Request;
 use script::read_line;
 use std::alloc::Global;
@@ -42,11 +41,10 @@ pub enum Stop {
     NoMemory,
 }
 
-// A question of one account's amounts.
-fn ask<B: Book>(book: &B, position: Position) -> Answer
-    ensures { λ r. ⌜ r ≡ holdingReply (B·Book .fixed) (B·Book .holdings (now (book .entry))) position ⌝ }
+fn held(answer: Result<Holding, Refusal>) -> Answer
+    ensures { λ r. ⌜ r ≡ heldReply answer ⌝ }
 {
-    match book.holding(position.account, position.item) {
+    match answer {
         Ok(holding) => Answer::Held(holding),
         Err(refusal) => Answer::Refused(Fault::plain(refusal)),
     }
@@ -62,8 +60,8 @@ pub fn answer_line<R: Book, C: Book>(ledger: &mut Ledger<R, C>, line: &[u8]) -> 
             Ok(()) => Answer::Done,
             Err(fault) => Answer::Refused(fault),
         },
-        Ok(Request::Register(position)) => ask(ledger.register(), position),
-        Ok(Request::Cash(position)) => ask(ledger.cash(), position),
+        Ok(Request::Register(position)) => held(ledger.securities(position.account, position.item)),
+        Ok(Request::Cash(position)) => held(ledger.money(position.account, position.item)),
         Err(refusal) => Answer::Refused(Fault::plain(refusal)),
     }
 }

@@ -18,18 +18,18 @@ use Rattle.instruction.specs.declared.Instruction.{Instruction}
 use Rattle.instruction.specs.Kinds.{kindAt}
 use Rattle.book.specs.Holdings.{Holdings}
 use Rattle.book.specs.Rulings.{first, onOk, outcome}
-use Rattle.ledger.specs.declared.trade.State.{State}
-use Rattle.ledger.specs.declared.trade.State.the-variants.{Entered, Earmarked, Funded, Settled, Freed}
-use Rattle.ledger.specs.declared.trade.Terms.{Terms}
-use Rattle.ledger.specs.declared.trade.Trade.{Trade}
-use Rattle.ledger.specs.Table.{Act, after, starts, next}
-use Rattle.ledger.specs.Terms.{termsOf, securities, cash}
-use Rattle.ledger.specs.Rules.{Rulebook, Standing, allChecks, answerAs, answer, at, turned, isEnter, termsAfter, deed, effect, step, Reached}
+use Rattle.rulebook.specs.declared.State.{State}
+use Rattle.rulebook.specs.declared.State.the-variants.{Entered, Earmarked, Funded, Settled, Freed}
+use Rattle.rulebook.specs.declared.Terms.{Terms}
+use Rattle.rulebook.specs.declared.Trade.{Trade}
+use Rattle.rulebook.specs.Table.{Act, after, starts, next}
+use Rattle.rulebook.specs.Terms.{termsOf, securities, cash}
+use Rattle.rulebook.specs.Rules.{Rulebook, Standing, allChecks, answerAs, answer, at, turned, isEnter, termsAfter, deed, effect, step, Reached}
 use Rattle.ledger.specs.View.{standing}
 use Rattle.ledger.specs.Rows.{blank, stateAt, termsAt, put, rowsAfter}
-use Rattle.ledger.proofs.Checks.{right}
+use Rattle.rulebook.proofs.Checks.{right}
 use Rattle.ledger.proofs.Views.{standing-same}
-use Rattle.ledger.proofs.Carries.{carried-out}
+use Rattle.rulebook.proofs.Carries.{carried-out}
 use Rattle.book.proofs.Accepted.{outcome-ok}
 
 -- where a kind of a trade may start, the table leads on

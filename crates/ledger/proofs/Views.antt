@@ -7,9 +7,9 @@ use lib.ListN.{getD, replicate}
 use Rattle.std.proofs.shelf.Lists.{getD-past, getD-replicate}
 use Rattle.std.proofs.shelf.Tests.{cases-lt}
 use Rattle.book.specs.Holdings.{Holdings, nothing}
-use Rattle.ledger.specs.declared.trade.Trade.{Trade}
-use Rattle.ledger.specs.Terms.{Side, securities, cash}
-use Rattle.ledger.specs.Rules.{Standing, empty}
+use Rattle.rulebook.specs.declared.Trade.{Trade}
+use Rattle.rulebook.specs.Terms.{Side, securities, cash}
+use Rattle.rulebook.specs.Rules.{Standing, empty}
 use Rattle.ledger.specs.View.{bySide, standing}
 use Rattle.ledger.specs.Rows.{blank, stateAt, termsAt}
 

@@ -1,8 +1,2 @@
-pub mod Table
-pub mod Terms
-pub mod Rules
-pub mod Tally
-pub mod Law
-pub mod Words
 pub mod Rows
 pub mod View

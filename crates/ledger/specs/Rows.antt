@@ -4,7 +4,6 @@ use mathlib.Core.Bool.{cond, not}
 use mathlib.Core.List.{List}
 use lib.Dec.{leb}
 use lib.ListN.{getD, set}
-use Rattle.std.specs.Options.{mapped}
 use Rattle.std.specs.declared.option.Option.{Option}
 use Rattle.std.specs.declared.option.Option.the-variants.{Some, None}
 use Rattle.std.specs.declared.result.Result.{Result}
@@ -12,13 +11,13 @@ use Rattle.std.specs.declared.result.Result.the-variants.{Ok, Err}
 use Rattle.answers.specs.declared.Refusal.{Refusal}
 use Rattle.answers.specs.declared.Refusal.the-variants.{NoTrade}
 use Rattle.instruction.specs.declared.Instruction.{Instruction}
-use Rattle.ledger.specs.declared.trade.State.{State}
-use Rattle.ledger.specs.declared.trade.State.the-variants.{Unentered}
-use Rattle.ledger.specs.declared.trade.Terms.{Terms}
-use Rattle.ledger.specs.declared.trade.Trade.{Trade}
-use Rattle.ledger.specs.Table.{Act, starts, next}
-use Rattle.ledger.specs.Terms.{noTerms, termsOf}
-use Rattle.ledger.specs.Rules.{isEnter}
+use Rattle.rulebook.specs.declared.State.{State}
+use Rattle.rulebook.specs.declared.State.the-variants.{Unentered}
+use Rattle.rulebook.specs.declared.Terms.{Terms}
+use Rattle.rulebook.specs.declared.Trade.{Trade}
+use Rattle.rulebook.specs.Table.{Act, starts}
+use Rattle.rulebook.specs.Terms.{noTerms}
+use Rattle.rulebook.specs.Rules.{turnedTrade}
 
 -- a trade that was never entered
 abbrev pub blank : Trade
@@ -41,10 +40,7 @@ putAnswer t = cond (leb 128 t) (Err NoTrade) (Ok tt)
 abbrev pub startable : Act → Refusal → List Trade → ℕ → Result Trade Refusal
 startable k r rows t = cond (leb 128 t) (Err NoTrade) (cond (not (starts k (stateAt rows t))) (Err r) (Ok (getD rows t blank)))
 
--- a trade after an instruction that its state lets start
-abbrev pub turnedTrade : Act → Instruction → Trade → Option Trade
-turnedTrade k x trade = mapped (λ p. record { state = p; terms = cond (isEnter k) (termsOf x) (trade .terms) }) (next k (trade .state))
-
+-- one trade put where there is one
 abbrev pub rowsWith : List Trade → ℕ → Option Trade → List Trade
 rowsWith rows t (Some trade) = put rows t trade
 rowsWith rows t None = rows

@@ -1,10 +1,15 @@
 -- Where the code's ledger stands. Assumes nothing.
+use Prim.Native.Nat.{ℕ}
 use mathlib.Core.List.{List}
+use Rattle.std.specs.declared.result.Result.{Result}
+use Rattle.answers.specs.declared.Refusal.{Refusal}
+use Rattle.book.specs.declared.Holding.{Holding}
 use Rattle.book.specs.Holdings.{Holdings, BookKind}
-use Rattle.ledger.specs.declared.trade.Trade.{Trade}
+use Rattle.book.specs.Rulings.{asked, holdingAt}
+use Rattle.rulebook.specs.declared.Trade.{Trade}
 use Rattle.ledger.specs.declared.Ledger.{Ledger}
-use Rattle.ledger.specs.Terms.{Side, securities, cash}
-use Rattle.ledger.specs.Rules.{Rulebook, Standing}
+use Rattle.rulebook.specs.Terms.{Side, securities, cash}
+use Rattle.rulebook.specs.Rules.{Rulebook, Standing}
 use Rattle.ledger.specs.Rows.{stateAt, termsAt}
 
 abbrev pub bySide : {X : Type 0} → X → X → Side → X
@@ -22,3 +27,7 @@ standing r c rows = record { book = bySide r c; state = stateAt rows; terms = te
 -- by the meaning of each book
 abbrev pub standingOf : {R C : Type 0} → (R → Holdings) → (C → Holdings) → Ledger R C → Standing
 standingOf r c l = standing (r (l .register)) (c (l .cash)) (l .trades .rows)
+
+-- the question of what an account has of an item, or of a currency
+abbrev pub holdingQuestion : Rulebook → Standing → Side → ℕ → ℕ → Result Holding Refusal
+holdingQuestion h s d account item = asked (h .kind d) (holdingAt (s .book d)) account item

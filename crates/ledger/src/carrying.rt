@@ -2,16 +2,16 @@
 ghost use mathlib.Core.Path.{_≡_};
 ghost use Rattle.std.specs.declared.option.Option.the-variants.{Some};
 ghost use Rattle.book.specs.Rulings.{ruling, outcome};
-ghost use Rattle.ledger.specs.Terms.{securities, cash as money};
-ghost use Rattle.ledger.specs.Rules.{deed};
+ghost use Rattle.rulebook.specs.Terms.{securities, cash as money};
+ghost use Rattle.rulebook.specs.Rules.{deed};
 ghost use Rattle.ledger.specs.Rows.{stateAt, termsAt, rowsAfter};
 use crate::Ledger;
-use crate::trade::State;
-use crate::trade::Trade;
 use answers::Refusal;
 use book::Book;
 use instruction::Instruction;
 use instruction::Kind;
+use rulebook::State;
+use rulebook::Trade;
 
 // What the instruction has the register do, and the register's answer.
 fn move_securities<B: Book>(

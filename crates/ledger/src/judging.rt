@@ -6,15 +6,15 @@ ghost use lib.Dec.{ltb};
 ghost use Rattle.std.specs.declared.option.Option.the-variants.{Some};
 ghost use Rattle.std.specs.declared.result.Result.the-variants.{Ok, Err};
 ghost use Rattle.book.specs.Rulings.{first};
-ghost use Rattle.ledger.specs.Rules.{stray, enterChecks, tradeChecks, ownChecks, answerAs};
+ghost use Rattle.rulebook.specs.Rules.{stray, enterChecks, tradeChecks, ownChecks, answerAs};
 ghost use Rattle.ledger.specs.Rows.{stateAt, startable};
 ghost use Rattle.ledger.specs.View.{rulebook, standingOf};
 use crate::Ledger;
-use crate::trade::Trade;
 use answers::Refusal;
 use book::Book;
 use instruction::Instruction;
 use instruction::Kind;
+use rulebook::Trade;
 
 // A field other than the kind and the trade is not 0.
 fn past_trade(x: &Instruction) -> bool

@@ -1,21 +1,22 @@
 // The ledger: trades over a register of securities and a cash book, and the rules of settlement.
 ghost use mathlib.Core.Path.{_≡_};
-ghost use Rattle.ledger.specs.Rules.{empty, step, verdict, faultOf, Reached};
+ghost use Rattle.rulebook.specs.Terms.{securities as inSecurities, cash as inCash};
+ghost use Rattle.rulebook.specs.Rules.{empty, step, verdict, faultOf, Reached};
 ghost use Rattle.ledger.specs.Rows.{stateQuestion};
-ghost use Rattle.ledger.specs.View.{rulebook, standingOf};
-ghost use Rattle.ledger.specs.Words.{By-the-table};
+ghost use Rattle.ledger.specs.View.{rulebook, standingOf, holdingQuestion};
+ghost use Rattle.rulebook.specs.Words.{By-the-table};
 
 mod carrying;
 mod judging;
-pub mod trade;
 pub mod trades;
 
 use answers::Fault;
 use answers::Refusal;
 use book::Book;
+use book::Holding;
 use instruction::Instruction;
 use instruction::Kind;
-use trade::State;
+use rulebook::State;
 use trades::Trades;
 
 // Any register and any cash book, with the trades between their accounts.
@@ -102,27 +103,17 @@ impl<R: Book, C: Book> Ledger<R, C> {
         Ok(self.trades.at(number).state)
     }
 
-    pub fn register(&self) -> &R
-        ensures { λ r. ⌜ now r ≡ now (self .entry) .register ⌝ }
+    // What an account has of an item of the register.
+    pub fn securities(&self, account: u16, item: u16) -> Result<Holding, Refusal>
+        ensures { λ r. ⌜ r ≡ holdingQuestion (rulebook (R·Book .fixed) (C·Book .fixed)) (standingOf (R·Book .holdings) (C·Book .holdings) (now (self .entry))) inSecurities account item ⌝ }
     {
-        &self.register
+        self.register.holding(account, item)
     }
 
-    pub fn cash(&self) -> &C
-        ensures { λ r. ⌜ now r ≡ now (self .entry) .cash ⌝ }
+    // What an account has of a currency.
+    pub fn money(&self, account: u16, currency: u16) -> Result<Holding, Refusal>
+        ensures { λ r. ⌜ r ≡ holdingQuestion (rulebook (R·Book .fixed) (C·Book .fixed)) (standingOf (R·Book .holdings) (C·Book .holdings) (now (self .entry))) inCash account currency ⌝ }
     {
-        &self.cash
-    }
-
-    // Gives the books back.
-    pub fn into_books(self) -> (R, C)
-        ensures { λ r. ⌜ r ≡ (self .register, self .cash) ⌝ }
-    {
-        let Ledger {
-            trades: _,
-            register,
-            cash,
-        } = self;
-        (register, cash)
+        self.cash.holding(account, currency)
     }
 }

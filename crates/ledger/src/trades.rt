@@ -3,10 +3,10 @@
 ghost use mathlib.Core.Path.{_≡_};
 ghost use lib.ListN.{length, getD, replicate};
 ghost use Rattle.ledger.specs.Rows.{blank, put as putIn, putAnswer};
-use crate::trade::State;
-use crate::trade::Terms;
-use crate::trade::Trade;
 use answers::Refusal;
+use rulebook::State;
+use rulebook::Terms;
+use rulebook::Trade;
 
 #[derive(Drop)]
 pub struct Trades {

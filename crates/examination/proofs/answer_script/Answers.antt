@@ -2,7 +2,7 @@ use mathlib.Core.Path.{_≡_, sym, ap, subst, _∙_}
 use mathlib.Core.List.{[], _∷_, _++_}
 use native.Mathlib.Omega.{arith}
 use Rattle.std.specs.Of.Vec.{vec-items}
-use Rattle.ledger.specs.Rules.{Standing}
+use Rattle.rulebook.specs.Rules.{Standing}
 use Rattle.ledger.specs.View.{rulebook, standingOf}
 use Rattle.examination.proofs.Course.{Going, going-start, going-more, going-end, going-stop}
 use Rattle.examination.proofs.answer_script.Needs as need

@@ -6,11 +6,11 @@ use Rattle.std.proofs.shelf.Results.{err-from-errBy}
 use Rattle.answers.specs.declared.Refusal.the-variants.{NoTrade, EverEntered}
 use Rattle.instruction.specs.declared.Kind.the-variants.{Enter}
 use Rattle.book.specs.Rulings.{first}
-use Rattle.ledger.specs.Table.{starts}
-use Rattle.ledger.specs.Rules.{enterChecks}
+use Rattle.rulebook.specs.Table.{starts}
+use Rattle.rulebook.specs.Rules.{enterChecks}
 use Rattle.ledger.specs.Rows.{blank, stateAt}
 use Rattle.ledger.specs.View.{rulebook}
-use Rattle.ledger.proofs.Checks.{refused-first}
+use Rattle.rulebook.proofs.Checks.{refused-first}
 use Rattle.ledger.proofs.Ledger.enter_ruling.Needs as need
 
 pub returns-in-Break-startable : need.returns-in-Break-startable

@@ -4,10 +4,10 @@ use Rattle.answers.specs.Faults.{plain, onTrade}
 use Rattle.std.specs.declared.option.Option.the-variants.{Some, None}
 use Rattle.std.specs.declared.result.Result.the-variants.{Ok, Err}
 use Rattle.answers.specs.declared.Refusal.the-variants.{UnknownKind}
-use Rattle.ledger.specs.Rules.{namesTrade, withTrade}
+use Rattle.rulebook.specs.Rules.{namesTrade, withTrade}
 use Rattle.ledger.specs.View.{rulebook, standingOf}
 use Rattle.ledger.proofs.Carried.{carried, refused, accepted, answer-as}
-use Rattle.ledger.proofs.Meanings.{by-the-table}
+use Rattle.rulebook.proofs.Meanings.{by-the-table}
 use Rattle.ledger.proofs.Ledger.instruct.Needs as need
 
 pub returns-in-rest : need.returns-in-rest

@@ -8,12 +8,12 @@ use Rattle.std.specs.shelf.Lists.{sumBy}
 use Rattle.instruction.specs.declared.Instruction.{Instruction}
 use Rattle.instruction.specs.Kinds.{kindAt}
 use Rattle.book.specs.Sums.{upTo, only, here}
-use Rattle.ledger.specs.declared.trade.State.{State}
-use Rattle.ledger.specs.declared.trade.State.the-variants.{Unentered}
-use Rattle.ledger.specs.declared.trade.Terms.{Terms}
-use Rattle.ledger.specs.Table.{after}
-use Rattle.ledger.specs.Terms.{noTerms, Side, securities, cash, giver, taker, asset, volume}
-use Rattle.ledger.specs.Rules.{turned, isEnter, termsAfter, holds, isSettled}
+use Rattle.rulebook.specs.declared.State.{State}
+use Rattle.rulebook.specs.declared.State.the-variants.{Unentered}
+use Rattle.rulebook.specs.declared.Terms.{Terms}
+use Rattle.rulebook.specs.Table.{after}
+use Rattle.rulebook.specs.Terms.{noTerms, Side, securities, cash, giver, taker, asset, volume}
+use Rattle.rulebook.specs.Rules.{turned, isEnter, termsAfter, holds, isSettled}
 
 -- a trade's state is that after its last instruction
 abbrev pub readState : (ℕ → State) → Instruction → ℕ → State

@@ -1,7 +1,7 @@
 -- The terms of a trade, and its two sides: securities against cash. Assumes nothing.
 use Prim.Native.Nat.{ℕ}
 use Rattle.instruction.specs.declared.Instruction.{Instruction}
-use Rattle.ledger.specs.declared.trade.Terms.{Terms}
+use Rattle.rulebook.specs.declared.Terms.{Terms}
 
 abbrev pub noTerms : Terms
 noTerms = record { seller = 0; buyer = 0; item = 0; currency = 0; quantity = 0; amount = 0 }

@@ -17,16 +17,16 @@ use Rattle.instruction.specs.declared.Instruction.{Instruction}
 use Rattle.instruction.specs.Kinds.{codeOf, kindAt}
 use Rattle.book.specs.Sums.{only}
 use Rattle.book.specs.Rulings.{first}
-use Rattle.ledger.specs.declared.trade.State.{State}
-use Rattle.ledger.specs.declared.trade.State.the-variants.{Unentered, Entered, Earmarked, Funded, Settled, Freed}
-use Rattle.ledger.specs.declared.trade.Terms.{Terms}
-use Rattle.ledger.specs.Table.{Act, after, starts, next, Steps}
-use Rattle.ledger.specs.Terms.{noTerms, termsOf}
-use Rattle.ledger.specs.Rules.{Rulebook, Standing, empty, allChecks, at, turned, effect, Runs, start, more}
-use Rattle.ledger.specs.Tally.{readState, readTerms}
-use Rattle.ledger.specs.Words.{After, OfTrade, On, EnterOn, Last-words, standingAfter, By-the-table}
-use Rattle.ledger.proofs.Checks.{right, enter-code}
-use Rattle.ledger.proofs.Tables.{state-table}
+use Rattle.rulebook.specs.declared.State.{State}
+use Rattle.rulebook.specs.declared.State.the-variants.{Unentered, Entered, Earmarked, Funded, Settled, Freed}
+use Rattle.rulebook.specs.declared.Terms.{Terms}
+use Rattle.rulebook.specs.Table.{Act, after, starts, next, Steps}
+use Rattle.rulebook.specs.Terms.{noTerms, termsOf}
+use Rattle.rulebook.specs.Rules.{Rulebook, Standing, empty, allChecks, at, turned, effect, Runs, start, more}
+use Rattle.rulebook.specs.Tally.{readState, readTerms}
+use Rattle.rulebook.specs.Words.{After, OfTrade, On, EnterOn, Last-words, standingAfter, By-the-table}
+use Rattle.rulebook.proofs.Checks.{right, enter-code}
+use Rattle.rulebook.proofs.Tables.{state-table}
 
 at-same : {Y : Type 0} (f : ℕ → Y) (t u : ℕ) (v : Y) → t ≡ u → at f t v u ≡ v
 at-same f t u v e = cond-true (eqb t u) v (f u) (eq-eqb t u e)

@@ -8,13 +8,13 @@ use Rattle.instruction.specs.declared.Instruction.{Instruction}
 use Rattle.instruction.specs.Kinds.{kindAt}
 use Rattle.book.specs.Holdings.{nothing}
 use Rattle.book.proofs.Sums.{upTo-zero}
-use Rattle.ledger.specs.declared.trade.State.the-variants.{Unentered}
-use Rattle.ledger.specs.Table.{after}
-use Rattle.ledger.specs.Terms.{noTerms, Side, securities, cash}
-use Rattle.ledger.specs.Rules.{Rulebook, Standing, turned, isEnter, termsAfter, Runs, start, more}
-use Rattle.ledger.specs.Tally.{readState, stateIn, readTerms, termsIn, creditAt, credits, giveOf, takeOf, holdOf}
-use Rattle.ledger.specs.Law.{Law-of-the-ledger}
-use Rattle.ledger.proofs.Step.{Fair, credited-by, fair-step}
+use Rattle.rulebook.specs.declared.State.the-variants.{Unentered}
+use Rattle.rulebook.specs.Table.{after}
+use Rattle.rulebook.specs.Terms.{noTerms, Side, securities, cash}
+use Rattle.rulebook.specs.Rules.{Rulebook, Standing, turned, isEnter, termsAfter, Runs, start, more}
+use Rattle.rulebook.specs.Tally.{readState, stateIn, readTerms, termsIn, creditAt, credits, giveOf, takeOf, holdOf}
+use Rattle.rulebook.specs.Law.{Law-of-the-ledger}
+use Rattle.rulebook.proofs.Step.{Fair, credited-by, fair-step}
 
 credit-code : (d : Side) (x : Instruction) (a i : ℕ) → creditAt d x a i ≡ credited-by (kindAt (x .kind)) d x a i
 credit-code securities x a i = grind arith

@@ -6,9 +6,9 @@ use Rattle.std.specs.declared.option.Option.{Option}
 use Rattle.std.specs.declared.option.Option.the-variants.{Some, None}
 use Rattle.instruction.specs.declared.Kind.{Kind}
 use Rattle.instruction.specs.declared.Kind.the-variants.{Issue, PayIn, Enter, Earmark, Fund, Settle, Free}
-use Rattle.ledger.specs.declared.trade.State.{State}
-use Rattle.ledger.specs.declared.trade.State.the-variants.{Unentered, Entered, Earmarked, Funded, Settled, Freed}
-use Rattle.ledger.specs.Table.{next, Steps, enters, earmarks, funds, settles, freed-entered, freed-earmarked, freed-funded, State-table}
+use Rattle.rulebook.specs.declared.State.{State}
+use Rattle.rulebook.specs.declared.State.the-variants.{Unentered, Entered, Earmarked, Funded, Settled, Freed}
+use Rattle.rulebook.specs.Table.{next, Steps, enters, earmarks, funds, settles, freed-entered, freed-earmarked, freed-funded, State-table}
 
 -- where the words lead from a state
 abbrev Leads : Option State → State → Kind → Type 0

@@ -12,16 +12,16 @@ use Rattle.instruction.specs.declared.Instruction.{Instruction}
 use Rattle.book.specs.Sums.{only, here}
 use Rattle.book.specs.Holdings.{Holdings, keep, crediting, blocking, releasing, moving, apply}
 use Rattle.book.specs.Rulings.{first}
-use Rattle.ledger.specs.declared.trade.State.{State}
-use Rattle.ledger.specs.declared.trade.State.the-variants.{Entered, Earmarked, Funded, Settled, Freed}
-use Rattle.ledger.specs.declared.trade.Terms.{Terms}
-use Rattle.ledger.specs.Table.{Act, after}
-use Rattle.ledger.specs.Terms.{Side, securities, cash, giver, taker, asset, volume}
-use Rattle.ledger.specs.Rules.{Rulebook, Standing, holds, isSettled, allChecks, at, turned, isEnter, termsAfter, deed}
-use Rattle.ledger.specs.Tally.{giveOf, takeOf, holdOf, over, held}
-use Rattle.ledger.proofs.Checks.{cleared, right, Idle, enter-idle, entered-idle, earmark-idle, fund-from, settle-from, free-from}
+use Rattle.rulebook.specs.declared.State.{State}
+use Rattle.rulebook.specs.declared.State.the-variants.{Entered, Earmarked, Funded, Settled, Freed}
+use Rattle.rulebook.specs.declared.Terms.{Terms}
+use Rattle.rulebook.specs.Table.{Act, after}
+use Rattle.rulebook.specs.Terms.{Side, securities, cash, giver, taker, asset, volume}
+use Rattle.rulebook.specs.Rules.{Rulebook, Standing, holds, isSettled, allChecks, at, turned, isEnter, termsAfter, deed}
+use Rattle.rulebook.specs.Tally.{giveOf, takeOf, holdOf, over, held}
+use Rattle.rulebook.proofs.Checks.{cleared, right, Idle, enter-idle, entered-idle, earmark-idle, fund-from, settle-from, free-from}
 use Rattle.book.proofs.Totals.{enough}
-use Rattle.ledger.proofs.Fair.{enters, shift-if}
+use Rattle.rulebook.proofs.Fair.{enters, shift-if}
 
 pub record Fair (d : Side) (b : Holdings) (st : ℕ → State) (tm : ℕ → Terms) (cr a i : ℕ) : Type 0 where
   pub whole : b .free a i + b .blocked a i + over (giveOf d a i) st tm ≡ cr + over (takeOf d a i) st tm

@@ -14,14 +14,14 @@ use Rattle.instruction.specs.declared.Instruction.{Instruction}
 use Rattle.instruction.specs.Kinds.{kindAt}
 use Rattle.book.specs.Holdings.{crediting, blocking, releasing, moving}
 use Rattle.book.specs.Rulings.{first, checks}
-use Rattle.ledger.specs.declared.trade.State.{State}
-use Rattle.ledger.specs.declared.trade.Terms.{Terms}
-use Rattle.ledger.specs.Table.{Act, starts}
-use Rattle.ledger.specs.Terms.{Side, securities, cash, giver, taker, asset, volume}
-use Rattle.ledger.specs.Rules.{Rulebook, Standing, holds, allChecks, isEnter, deed, Runs}
-use Rattle.ledger.specs.Law.{Proper, Safe, Carried-out}
-use Rattle.ledger.proofs.Checks.{passes, cleared, right, settle-from, was-entered}
-use Rattle.ledger.proofs.Safe.{safe}
+use Rattle.rulebook.specs.declared.State.{State}
+use Rattle.rulebook.specs.declared.Terms.{Terms}
+use Rattle.rulebook.specs.Table.{Act, starts}
+use Rattle.rulebook.specs.Terms.{Side, securities, cash, giver, taker, asset, volume}
+use Rattle.rulebook.specs.Rules.{Rulebook, Standing, holds, allChecks, isEnter, deed, Runs}
+use Rattle.rulebook.specs.Law.{Proper, Safe, Carried-out}
+use Rattle.rulebook.proofs.Checks.{passes, cleared, right, settle-from, was-entered}
+use Rattle.rulebook.proofs.Safe.{safe}
 
 neither : (b c : Bool) → b ≡ false → c ≡ false → (b || c) ≡ false
 neither b c p q = rw (p, q)

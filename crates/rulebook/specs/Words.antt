@@ -10,12 +10,12 @@ use Rattle.instruction.specs.declared.Kind.{Kind}
 use Rattle.instruction.specs.declared.Kind.the-variants.{Issue, PayIn, Enter, Earmark, Fund, Settle, Free}
 use Rattle.instruction.specs.declared.Instruction.{Instruction}
 use Rattle.instruction.specs.Kinds.{codeOf, kindAt}
-use Rattle.ledger.specs.declared.trade.State.{State}
-use Rattle.ledger.specs.declared.trade.State.the-variants.{Unentered, Entered, Earmarked, Funded, Settled, Freed}
-use Rattle.ledger.specs.Table.{Act, Steps, State-table}
-use Rattle.ledger.specs.Terms.{termsOf}
-use Rattle.ledger.specs.Rules.{Rulebook, Standing, empty, answer, effect}
-use Rattle.ledger.specs.Tally.{stateIn, termsIn}
+use Rattle.rulebook.specs.declared.State.{State}
+use Rattle.rulebook.specs.declared.State.the-variants.{Unentered, Entered, Earmarked, Funded, Settled, Freed}
+use Rattle.rulebook.specs.Table.{Act, Steps, State-table}
+use Rattle.rulebook.specs.Terms.{termsOf}
+use Rattle.rulebook.specs.Rules.{Rulebook, Standing, empty, answer, effect}
+use Rattle.rulebook.specs.Tally.{stateIn, termsIn}
 
 -- the state after an instruction of a kind, by the table
 abbrev pub After : Act → State → Type 0

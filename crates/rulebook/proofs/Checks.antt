@@ -15,13 +15,13 @@ use Rattle.instruction.specs.declared.Instruction.{Instruction}
 use Rattle.instruction.specs.Kinds.{codeOf, kindAt}
 use Rattle.book.specs.Rulings.{Check, first}
 use Rattle.book.proofs.Accepted.{Clear, clear}
-use Rattle.ledger.specs.declared.trade.State.{State}
-use Rattle.ledger.specs.declared.trade.State.the-variants.{Unentered, Entered}
-use Rattle.ledger.specs.declared.trade.Terms.{Terms}
-use Rattle.ledger.specs.Table.{Act, starts}
-use Rattle.ledger.specs.Terms.{Side, securities, cash}
-use Rattle.ledger.specs.Rules.{Rulebook, Standing, holds, isSettled, allChecks, isEnter}
-use Rattle.ledger.specs.Words.{OfTrade}
+use Rattle.rulebook.specs.declared.State.{State}
+use Rattle.rulebook.specs.declared.State.the-variants.{Unentered, Entered}
+use Rattle.rulebook.specs.declared.Terms.{Terms}
+use Rattle.rulebook.specs.Table.{Act, starts}
+use Rattle.rulebook.specs.Terms.{Side, securities, cash}
+use Rattle.rulebook.specs.Rules.{Rulebook, Standing, holds, isSettled, allChecks, isEnter}
+use Rattle.rulebook.specs.Words.{OfTrade}
 
 pub passes : (cs : List Check) → Clear cs → first cs ≡ Ok tt
 passes [] c = refl

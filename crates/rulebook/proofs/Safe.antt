@@ -14,17 +14,17 @@ use Rattle.instruction.specs.declared.Instruction.{Instruction}
 use Rattle.instruction.specs.Kinds.{kindAt}
 use Rattle.book.specs.Sums.{only, here}
 use Rattle.book.specs.Rulings.{first}
-use Rattle.ledger.specs.declared.trade.State.{State}
-use Rattle.ledger.specs.declared.trade.State.the-variants.{Unentered, Entered, Earmarked, Funded, Settled, Freed}
-use Rattle.ledger.specs.declared.trade.Terms.{Terms}
-use Rattle.ledger.specs.Table.{Act, after}
-use Rattle.ledger.specs.Terms.{termsOf, Side, securities, cash, giver, taker, asset, volume}
-use Rattle.ledger.specs.Rules.{Rulebook, Standing, holds, allChecks, at, turned, isEnter, termsAfter, Runs, start, more}
-use Rattle.ledger.specs.Tally.{credits}
-use Rattle.ledger.specs.Law.{Proper, Safe}
-use Rattle.ledger.proofs.Checks.{cleared, right, was-entered}
-use Rattle.ledger.proofs.Step.{covers}
-use Rattle.ledger.proofs.Whole.{fair}
+use Rattle.rulebook.specs.declared.State.{State}
+use Rattle.rulebook.specs.declared.State.the-variants.{Unentered, Entered, Earmarked, Funded, Settled, Freed}
+use Rattle.rulebook.specs.declared.Terms.{Terms}
+use Rattle.rulebook.specs.Table.{Act, after}
+use Rattle.rulebook.specs.Terms.{termsOf, Side, securities, cash, giver, taker, asset, volume}
+use Rattle.rulebook.specs.Rules.{Rulebook, Standing, holds, allChecks, at, turned, isEnter, termsAfter, Runs, start, more}
+use Rattle.rulebook.specs.Tally.{credits}
+use Rattle.rulebook.specs.Law.{Proper, Safe}
+use Rattle.rulebook.proofs.Checks.{cleared, right, was-entered}
+use Rattle.rulebook.proofs.Step.{covers}
+use Rattle.rulebook.proofs.Whole.{fair}
 
 module _ (P : Terms → Type 0) (st : ℕ → State) (tm : ℕ → Terms) (h : (t : ℕ) → (st t ≡ Unentered) ⊎ P (tm t)) where
   set-entered : (t : ℕ) (m : Terms) → P m → (u : ℕ) → (at st t Entered u ≡ Unentered) ⊎ P (at tm t m u)

@@ -9,11 +9,11 @@ use Rattle.instruction.specs.declared.Instruction.{Instruction}
 use Rattle.instruction.specs.Kinds.{kindAt}
 use Rattle.book.specs.Holdings.{Holdings}
 use Rattle.book.specs.Rulings.{ruling}
-use Rattle.ledger.specs.declared.trade.State.the-variants.{Unentered}
-use Rattle.ledger.specs.declared.trade.Terms.{Terms}
-use Rattle.ledger.specs.Terms.{Side, giver, taker, asset, volume}
-use Rattle.ledger.specs.Rules.{Rulebook, Standing, Runs, answer, deed, holds}
-use Rattle.ledger.specs.Tally.{credits, given, received, held}
+use Rattle.rulebook.specs.declared.State.the-variants.{Unentered}
+use Rattle.rulebook.specs.declared.Terms.{Terms}
+use Rattle.rulebook.specs.Terms.{Side, giver, taker, asset, volume}
+use Rattle.rulebook.specs.Rules.{Rulebook, Standing, Runs, answer, deed, holds}
+use Rattle.rulebook.specs.Tally.{credits, given, received, held}
 
 -- For an account and an item: free and blocked together are the credits and what was received, less what was
 -- given; and what is blocked is what its earmarked or funded trades hold, in cash its funded ones.

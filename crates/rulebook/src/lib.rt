@@ -1,9 +1,9 @@
-// A trade: its state, and the terms on which it was entered.
+// The rule book: trades and their states. Its specs state the rules of settlement and the law of the ledger.
 ghost use mathlib.Core.Path.{_≡_};
 ghost use Rattle.std.specs.declared.option.Option.the-variants.{Some};
-ghost use Rattle.ledger.specs.Table.{next as nextState};
-ghost use Rattle.ledger.specs.Terms.{termsOf};
-ghost use Rattle.ledger.specs.Rows.{turnedTrade};
+ghost use Rattle.rulebook.specs.Table.{next as nextState};
+ghost use Rattle.rulebook.specs.Terms.{termsOf};
+ghost use Rattle.rulebook.specs.Rules.{turnedTrade};
 use instruction::Instruction;
 use instruction::Kind;
 

@@ -8,8 +8,8 @@ use Rattle.std.specs.declared.option.Option.{Option}
 use Rattle.std.specs.declared.option.Option.the-variants.{Some, None}
 use Rattle.instruction.specs.declared.Kind.{Kind}
 use Rattle.instruction.specs.declared.Kind.the-variants.{Issue, PayIn, Enter, Earmark, Fund, Settle, Free}
-use Rattle.ledger.specs.declared.trade.State.{State}
-use Rattle.ledger.specs.declared.trade.State.the-variants.{Unentered, Entered, Earmarked, Funded, Settled, Freed}
+use Rattle.rulebook.specs.declared.State.{State}
+use Rattle.rulebook.specs.declared.State.the-variants.{Unentered, Entered, Earmarked, Funded, Settled, Freed}
 
 -- what an instruction asks for: a kind, or none where its kind byte is unknown
 abbrev pub Act : Type 0

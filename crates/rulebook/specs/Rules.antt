@@ -4,6 +4,7 @@ use mathlib.Core.Path.{_≡_}
 use mathlib.Core.Bool.{Bool, true, false, _||_, not, cond}
 use mathlib.Core.List.{List, [], _∷_, _++_}
 use lib.Dec.{eqb, leb, ltb}
+use Rattle.std.specs.Options.{mapped}
 use Rattle.std.specs.declared.option.Option.{Option}
 use Rattle.std.specs.declared.option.Option.the-variants.{Some, None}
 use Rattle.std.specs.declared.result.Result.{Result}
@@ -18,11 +19,12 @@ use Rattle.instruction.specs.declared.Instruction.{Instruction}
 use Rattle.instruction.specs.Kinds.{kindAt}
 use Rattle.book.specs.Holdings.{Holdings, BookKind, nothing, Deed, keep, crediting, blocking, releasing, moving, apply}
 use Rattle.book.specs.Rulings.{Check, _refuses_, first, checks, onOk}
-use Rattle.ledger.specs.declared.trade.State.{State}
-use Rattle.ledger.specs.declared.trade.State.the-variants.{Unentered, Entered, Earmarked, Funded, Settled, Freed}
-use Rattle.ledger.specs.declared.trade.Terms.{Terms}
-use Rattle.ledger.specs.Table.{Act, rank, among, after, starts}
-use Rattle.ledger.specs.Terms.{noTerms, termsOf, Side, securities, cash, giver, taker, asset, volume}
+use Rattle.rulebook.specs.declared.State.{State}
+use Rattle.rulebook.specs.declared.State.the-variants.{Unentered, Entered, Earmarked, Funded, Settled, Freed}
+use Rattle.rulebook.specs.declared.Terms.{Terms}
+use Rattle.rulebook.specs.declared.Trade.{Trade}
+use Rattle.rulebook.specs.Table.{Act, rank, among, after, starts, next}
+use Rattle.rulebook.specs.Terms.{noTerms, termsOf, Side, securities, cash, giver, taker, asset, volume}
 
 -- what is fixed before the first instruction: the kinds of the register and of the cash book
 pub record Rulebook : Type 0 where
@@ -161,6 +163,10 @@ isEnter None = false
 abbrev pub termsAfter : Bool → (ℕ → Terms) → Instruction → ℕ → Terms
 termsAfter true f x = at f (x .trade) (termsOf x)
 termsAfter false f x = f
+
+-- a trade after an instruction that its state lets start
+abbrev pub turnedTrade : Act → Instruction → Trade → Option Trade
+turnedTrade k x trade = mapped (λ p. record { state = p; terms = cond (isEnter k) (termsOf x) (trade .terms) }) (next k (trade .state))
 
 -- what each book does: Issue credits the register and Pay in the cash book; Earmark blocks the seller's quantity
 -- and Fund the buyer's amount; Settle moves both; Free releases what the trade has blocked

@@ -8,11 +8,11 @@ use lib.Dec.{eqb}
 use Rattle.std.proofs.shelf.Tests.{eqb-true, eq-eqb, ne-eqb, cases-bool, cond-true, cond-false}
 use Rattle.book.specs.Sums.{only}
 use Rattle.book.proofs.Sums.{upTo-same, upTo-change}
-use Rattle.ledger.specs.declared.trade.State.{State}
-use Rattle.ledger.specs.declared.trade.State.the-variants.{Entered}
-use Rattle.ledger.specs.declared.trade.Terms.{Terms}
-use Rattle.ledger.specs.Rules.{at}
-use Rattle.ledger.specs.Tally.{over}
+use Rattle.rulebook.specs.declared.State.{State}
+use Rattle.rulebook.specs.declared.State.the-variants.{Entered}
+use Rattle.rulebook.specs.declared.Terms.{Terms}
+use Rattle.rulebook.specs.Rules.{at}
+use Rattle.rulebook.specs.Tally.{over}
 
 -- a trade's change of state changes the sum over all trades by one term
 pub shift : (c : State → Terms → ℕ) (st : ℕ → State) (tm : ℕ → Terms) (t : ℕ) (old new : State) → st t ≡ old → t < 128 → over c (at st t new) tm + c old (tm t) ≡ over c st tm + c new (tm t)
