@@ -112,11 +112,8 @@ impl Fault {
         ensures { λ r. ⌜ r ≡ onTrade refusal trade ⌝ }
     {
         Fault {
-            refusal,
-            block: None,
-            entry: None,
             trade: Some(trade),
-            rule: None,
+            ..Fault::plain(refusal)
         }
     }
 

@@ -25,17 +25,17 @@ pub fn read64(b: [u8; 8]) -> u64
 pub fn write16(n: u16) -> [u8; 2]
     ensures { λ r. ⌜ r ≡ bytes 2 n ⌝ }
 {
-    n.to_le_bytes()
+    u16::to_le_bytes(n)
 }
 
 pub fn write32(n: u32) -> [u8; 4]
     ensures { λ r. ⌜ r ≡ bytes 4 n ⌝ }
 {
-    n.to_le_bytes()
+    u32::to_le_bytes(n)
 }
 
 pub fn write64(n: u64) -> [u8; 8]
     ensures { λ r. ⌜ r ≡ bytes 8 n ⌝ }
 {
-    n.to_le_bytes()
+    u64::to_le_bytes(n)
 }

@@ -40,10 +40,9 @@ impl Trades {
     pub fn at(&self, number: u32) -> Trade
         ensures { λ r. ⌜ r ≡ getD (now (self .entry) .rows) number blank ⌝ }
     {
-        if number < 128 {
-            self.rows[number as usize]
-        } else {
-            UNENTERED
+        match self.rows.get(number as usize) {
+            Some(trade) => *trade,
+            None => UNENTERED,
         }
     }
 
