@@ -5,7 +5,7 @@ ghost use Rattle.answers.specs.Numbers.{numberOf, placeOf, Numbers-tell-apart}
 ghost use Rattle.answers.specs.Faults.{plain, onTrade};
 
 // The part of the engine that refuses.
-#[derive(Clone, Copy, PartialEq, Debug)]
+#[derive(Clone, Copy, PartialEq)]
 pub enum Place {
     Device,
     Book,
@@ -16,7 +16,7 @@ pub enum Place {
 }
 
 // Each way in which a call may refuse.
-#[derive(Clone, Copy, PartialEq, Debug)]
+#[derive(Clone, Copy, PartialEq)]
 pub enum Refusal {
     NoAccount,
     NoItem,
@@ -84,7 +84,7 @@ impl Refusal {
 
 // A refusal with the block, entry and trade that it concerns, and, where the rules refused what a journal
 // holds, the rules' own refusal.
-#[derive(Clone, Copy, PartialEq, Debug)]
+#[derive(Clone, Copy, PartialEq)]
 pub struct Fault {
     pub refusal: Refusal,
     pub block: Option<u32>,

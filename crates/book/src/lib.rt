@@ -8,7 +8,7 @@ ghost use Rattle.book.specs.Rulings.{ruling, outcome, asked, holdingAt, totall
 use answers::Refusal;
 
 // An account's free and blocked amount of one item.
-#[derive(Clone, Copy, PartialEq, Debug)]
+#[derive(Clone, Copy)]
 pub struct Holding {
     pub free: u64,
     pub blocked: u64,

@@ -14,7 +14,7 @@ use bytes::write32;
 use bytes::write64;
 
 // What an instruction asks for.
-#[derive(Clone, Copy, PartialEq, Debug)]
+#[derive(Clone, Copy)]
 pub enum Kind {
     Issue = 1,
     PayIn,
@@ -53,7 +53,7 @@ impl Kind {
 
 // The fields as they come, whether or not the kind is known or uses them: the rules judge that.
 // In an Enter `account` is the seller and `counterparty` the buyer.
-#[derive(Clone, Copy, PartialEq, Debug)]
+#[derive(Clone, Copy)]
 pub struct Instruction {
     pub kind: u8,
     pub account: u16,

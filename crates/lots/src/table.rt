@@ -2,7 +2,7 @@
 ghost use Rattle.lots.specs.Owners.{Full, Owned};
 
 // Which account has a lot, and whether it is blocked.
-#[derive(Clone, Copy, PartialEq, Debug)]
+#[derive(Clone, Copy)]
 pub enum Lot {
     Unowned,
     Free(u16),
