@@ -9,9 +9,9 @@ use Rattle.std.proofs.shelf.Tests.{eq-eqb}
 use Rattle.answers.specs.declared.Refusal.{Refusal}
 use Rattle.book.specs.declared.Holding.{Holding}
 use Rattle.book.specs.Holdings.{Holdings, total, limit, Deed, apply, crediting, blocking, moving, lowered}
-use Rattle.book.specs.Rulings.{ruling, outcome, asked}
+use Rattle.book.specs.Rulings.{ruling, outcome, asked, covering}
 use Rattle.book.proofs.Totals.{amount-le-total}
-use Rattle.book.proofs.Accepted.{outcome-ok, asked-ok, covering, covers-ok, credit-fits, block-accepted, move-accepted, stays-within}
+use Rattle.book.proofs.Accepted.{outcome-ok, asked-ok, covers-ok, credit-fits, block-accepted, move-accepted, stays-within}
 use Rattle.balances.specs.declared.table.Balances.{Balances}
 use Rattle.balances.specs.Rows.{balancesKind, at, amounts, Full, Within}
 use Rattle.balances.proofs.Put.{put, full-put, put-credit, put-block, put-lower}

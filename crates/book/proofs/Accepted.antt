@@ -11,7 +11,7 @@ use Rattle.std.proofs.shelf.Tests.{leb-false, ltb-false, eqb-false, lt-leb, le-
 use Rattle.answers.specs.declared.Refusal.{Refusal}
 use Rattle.answers.specs.declared.Refusal.the-variants.{NoAccount, NoItem, NoQuantity, OverBlocked}
 use Rattle.book.specs.Holdings.{Holdings, BookKind, total, limit, Deed, keep, crediting, blocking, releasing, moving, apply}
-use Rattle.book.specs.Rulings.{Check, _refuses_, first, checks, ruling, onOk, outcome, asked}
+use Rattle.book.specs.Rulings.{Check, _refuses_, first, checks, ruling, onOk, outcome, asked, covering}
 use Rattle.book.proofs.Totals.{credit-below, total-block, total-release, total-move}
 
 pass : (t : Bool) (e : Refusal) (r : Result (Unit {0}) Refusal) → Ok tt ≡ cond t (Err e) r → (t ≡ false) × (Ok tt ≡ r)
@@ -32,10 +32,6 @@ outcome-err k b w r e = ap (λ r. onOk r (apply b w) b) e
 -- a question that is answered lies within the book
 pub asked-ok : {X : Type 0} (k : BookKind) (f : ℕ → ℕ → X) (a i : ℕ) (x : X) → Ok x ≡ asked k f a i → (a < 64) × (i < k .items) × (x ≡ f a i)
 asked-ok k f a i x e = let p = given (leb 64 a) (leb (k .items) i) x (f a i) e in (leb-false 64 a (p .0), leb-false (k .items) i (p .1), p .2)
-
--- some quantity, and no more than is there
-abbrev pub covering : ℕ → ℕ → Refusal → Result (Unit {0}) Refusal
-covering n q short = cond (eqb q 0) (Err NoQuantity) (cond (ltb n q) (Err short) (Ok tt))
 
 pub covers-ok : (n q : ℕ) (short : Refusal) → Ok tt ≡ covering n q short → (0 < q) × (q ≤ n)
 covers-ok n q short e =

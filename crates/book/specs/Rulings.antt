@@ -44,6 +44,10 @@ onOk (Err e) new old = old
 abbrev pub outcome : BookKind → Holdings → Deed → Holdings
 outcome k b w = onOk (ruling k b w) (apply b w) b
 
+-- some quantity, and no more than is there
+abbrev pub covering : ℕ → ℕ → Refusal → Result (Unit {0}) Refusal
+covering n q short = cond (eqb q 0) (Err NoQuantity) (cond (ltb n q) (Err short) (Ok tt))
+
 -- a question of an amount
 abbrev pub asked : {X : Type 0} → BookKind → (ℕ → ℕ → X) → ℕ → ℕ → Result X Refusal
 asked k f a i = cond (leb 64 a) (Err NoAccount) (cond (leb (k .items) i) (Err NoItem) (Ok (f a i)))

@@ -4,7 +4,7 @@ ghost use mathlib.Core.Path.{_≡_};
 ghost use mathlib.Core.Logic.{_⊎_};
 ghost use Prim.Native.Nat.{ℕ, _<_, _≤_, _^_};
 ghost use Rattle.book.specs.Holdings.{Holdings, BookKind, nothing, limit, total, crediting, blocking, releasing, moving};
-ghost use Rattle.book.specs.Rulings.{ruling, outcome, asked, holdingAt, totalled};
+ghost use Rattle.book.specs.Rulings.{ruling, outcome, asked, covering, holdingAt, totalled};
 use answers::Refusal;
 
 // An account's free and blocked amount of one item.
@@ -12,6 +12,19 @@ use answers::Refusal;
 pub struct Holding {
     pub free: u64,
     pub blocked: u64,
+}
+
+// Whether some quantity can be taken from an amount: `short` refuses what is too much.
+pub fn covers(amount: u64, quantity: u64, short: Refusal) -> Result<(), Refusal>
+    ensures { λ r. ⌜ r ≡ covering amount quantity short ⌝ }
+{
+    if quantity == 0 {
+        return Err(Refusal::NoQuantity);
+    }
+    if amount < quantity {
+        return Err(short);
+    }
+    Ok(())
 }
 
 pub trait Book {

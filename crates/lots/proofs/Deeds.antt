@@ -13,10 +13,10 @@ use Rattle.std.proofs.shelf.Tests.{cases-eq, cases-lt, lt-ltb}
 use Rattle.answers.specs.declared.Refusal.{Refusal}
 use Rattle.book.specs.Sums.{only, here}
 use Rattle.book.specs.Holdings.{Holdings, total, nothing, Deed, apply, crediting, blocking, moving}
-use Rattle.book.specs.Rulings.{ruling, outcome, asked}
+use Rattle.book.specs.Rulings.{ruling, outcome, asked, covering}
 use Rattle.book.proofs.Same.{holdings-same}
 use Rattle.book.proofs.Change.{here-in, here-not}
-use Rattle.book.proofs.Accepted.{outcome-ok, asked-ok, covering, covers-ok, credit-fits, block-accepted, move-accepted}
+use Rattle.book.proofs.Accepted.{outcome-ok, asked-ok, covers-ok, credit-fits, block-accepted, move-accepted}
 use Rattle.lots.specs.declared.table.Lot.{Lot}
 use Rattle.lots.specs.declared.table.Lot.the-variants.{Unowned, Free, Blocked}
 use Rattle.lots.specs.declared.table.Lots.{Lots}
