@@ -4,9 +4,14 @@ use mathlib.Core.Path.{_≡_}
 use Rattle.answers.specs.declared.Place.{Place}
 use Rattle.answers.specs.declared.Place.the-variants.{Device, Book, Trades, Journal, Engine, Script}
 use Rattle.answers.specs.declared.Refusal.{Refusal}
-use Rattle.answers.specs.declared.Refusal.the-variants.{NoAccount, NoItem, NoQuantity, OverCeiling, OverFree, OverBlocked, NoTrade, StrayField, UnknownKind, SameParties, EverEntered, WrongState, Malformed, UnlistedLine, InputTooLong}
+use Rattle.answers.specs.declared.Refusal.the-variants.{NoBlock, NotABlock, NoCalls, Unreadable, NoAccount, NoItem, NoQuantity, OverCeiling, OverFree, OverBlocked, NoTrade, StrayField, UnknownKind, SameParties, EverEntered, WrongState, Malformed, UnlistedLine, InputTooLong}
 
 abbrev pub numberOf : Refusal → ℕ
+-- a device: a block that it has not; a buffer that is not 256 bytes; no calls left; a block that cannot be read
+numberOf NoBlock = 11
+numberOf NotABlock = 12
+numberOf NoCalls = 13
+numberOf Unreadable = 14
 -- a book: an account of 64 or more; an item that the book has not; a quantity of 0;
 numberOf NoAccount = 21
 numberOf NoItem = 22
@@ -30,6 +35,10 @@ numberOf UnlistedLine = 71
 numberOf InputTooLong = 73
 
 abbrev pub placeOf : Refusal → Place
+placeOf NoBlock = Device
+placeOf NotABlock = Device
+placeOf NoCalls = Device
+placeOf Unreadable = Device
 placeOf NoAccount = Book
 placeOf NoItem = Book
 placeOf NoQuantity = Book

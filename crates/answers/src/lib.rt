@@ -2,7 +2,7 @@
 ghost use mathlib.Core.Path.{_≡_};
 ghost use denote.Ref.{now};
 ghost use Rattle.answers.specs.Numbers.{numberOf, placeOf, Numbers-tell-apart};
-ghost use Rattle.answers.specs.Faults.{plain, onTrade};
+ghost use Rattle.answers.specs.Faults.{plain, atBlock, onTrade};
 
 // The part of the engine that refuses.
 #[derive(Clone, Copy, PartialEq)]
@@ -18,6 +18,10 @@ pub enum Place {
 // Each way in which a call may refuse.
 #[derive(Clone, Copy, PartialEq)]
 pub enum Refusal {
+    NoBlock,
+    NotABlock,
+    NoCalls,
+    Unreadable,
     NoAccount,
     NoItem,
     NoQuantity,
@@ -42,6 +46,10 @@ impl Refusal {
         ensures apart { λ _. ⌜ Numbers-tell-apart ⌝ }
     {
         match self {
+            Refusal::NoBlock => 11,
+            Refusal::NotABlock => 12,
+            Refusal::NoCalls => 13,
+            Refusal::Unreadable => 14,
             Refusal::NoAccount => 21,
             Refusal::NoItem => 22,
             Refusal::NoQuantity => 23,
@@ -64,6 +72,8 @@ impl Refusal {
         ensures { λ r. ⌜ r ≡ placeOf self ⌝ }
     {
         match self {
+            Refusal::NoBlock | Refusal::NotABlock | Refusal::NoCalls | Refusal::Unreadable =>
+                Place::Device,
             Refusal::NoAccount
             | Refusal::NoItem
             | Refusal::NoQuantity
@@ -104,6 +114,16 @@ impl Fault {
             entry: None,
             trade: None,
             rule: None,
+        }
+    }
+
+    // A refusal by a device, of a call that names a block.
+    pub fn at_block(refusal: Refusal, block: u32) -> Fault
+        ensures { λ r. ⌜ r ≡ atBlock refusal block ⌝ }
+    {
+        Fault {
+            block: Some(block),
+            ..Fault::plain(refusal)
         }
     }
 

@@ -1,0 +1,4 @@
+pub mod Splices
+pub mod Answered
+pub mod Rows
+pub mod Meaning

@@ -1,0 +1,2 @@
+pub mod Drills
+pub mod Pictures
