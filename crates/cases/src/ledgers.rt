@@ -1,27 +1,38 @@
-// Instructions that no script can state, and strings of bytes that are no instruction.
+// Instructions, those that no script can state among them, and strings of bytes.
 use answers::Fault;
 use answers::Refusal;
 use balances::Balances;
 use balances::BalancesBook;
 use book::Book;
 use instruction::Instruction;
-use instruction::Kind;
 use ledger::Ledger;
 use lots::Lots;
 use lots::LotsBook;
 use rulebook::State;
 use std::error::AnyError;
 
-const BLANK: Instruction = Instruction {
-    kind: 0,
-    account: 0,
-    counterparty: 0,
-    item: 0,
-    currency: 0,
-    trade: 0,
-    quantity: 0,
-    amount: 0,
-};
+// The fields in the order of the bytes.
+fn instruction(
+    kind: u8,
+    parties: (u16, u16),
+    assets: (u16, u16),
+    trade: u32,
+    volumes: (u64, u64),
+) -> Instruction {
+    let (account, counterparty) = parties;
+    let (item, currency) = assets;
+    let (quantity, amount) = volumes;
+    Instruction {
+        kind,
+        account,
+        counterparty,
+        item,
+        currency,
+        trade,
+        quantity,
+        amount,
+    }
+}
 
 fn trade_of(fault: &Fault) -> Option<u32> {
     fault.trade
@@ -48,26 +59,23 @@ fn give<R: Book, C: Book>(
 
 // Kinds that are none, each with a field that is not 0: the kind is checked first.
 fn kinds<R: Book, C: Book>(rt: &LibcRuntime, ledger: &mut Ledger<R, C>) -> Result<(), AnyError> {
-    give(rt, ledger, "kind 0", &BLANK)?;
+    give(
+        rt,
+        ledger,
+        "kind 0",
+        &instruction(0, (0, 0), (0, 0), 0, (0, 0)),
+    )?;
     give(
         rt,
         ledger,
         "kind 8",
-        &Instruction {
-            kind: 8,
-            trade: 1,
-            ..BLANK
-        },
+        &instruction(8, (0, 0), (0, 0), 1, (0, 0)),
     )?;
     give(
         rt,
         ledger,
         "kind 255",
-        &Instruction {
-            kind: 255,
-            amount: 1,
-            ..BLANK
-        },
+        &instruction(255, (0, 0), (0, 0), 0, (0, 1)),
     )
 }
 
@@ -80,84 +88,83 @@ fn stray_fields<R: Book, C: Book>(
         rt,
         ledger,
         "Issue with a trade",
-        &Instruction {
-            kind: 1,
-            trade: 1,
-            ..BLANK
-        },
+        &instruction(1, (0, 0), (0, 0), 1, (0, 0)),
     )?;
     give(
         rt,
         ledger,
         "Issue with an amount",
-        &Instruction {
-            kind: 1,
-            amount: 1,
-            ..BLANK
-        },
+        &instruction(1, (0, 0), (0, 0), 0, (0, 1)),
     )?;
     give(
         rt,
         ledger,
         "Pay in with an item",
-        &Instruction {
-            kind: 2,
-            item: 1,
-            ..BLANK
-        },
+        &instruction(2, (0, 0), (1, 0), 0, (0, 0)),
     )?;
     give(
         rt,
         ledger,
         "Pay in with a quantity",
-        &Instruction {
-            kind: 2,
-            quantity: 1,
-            ..BLANK
-        },
+        &instruction(2, (0, 0), (0, 0), 0, (1, 0)),
     )?;
     give(
         rt,
         ledger,
         "Earmark with an account",
-        &Instruction {
-            kind: 4,
-            account: 1,
-            trade: 128,
-            ..BLANK
-        },
+        &instruction(4, (1, 0), (0, 0), 128, (0, 0)),
     )?;
     give(
         rt,
         ledger,
         "Fund with a counterparty",
-        &Instruction {
-            kind: 5,
-            counterparty: 1,
-            trade: 127,
-            ..BLANK
-        },
+        &instruction(5, (0, 1), (0, 0), 127, (0, 0)),
     )?;
     give(
         rt,
         ledger,
         "Settle with a currency",
-        &Instruction {
-            kind: 6,
-            currency: 1,
-            trade: 4294967295,
-            ..BLANK
-        },
+        &instruction(6, (0, 0), (0, 1), 4294967295, (0, 0)),
     )?;
     give(
         rt,
         ledger,
         "Free with an amount",
-        &Instruction {
-            kind: 7,
-            amount: 18446744073709551615,
-            ..BLANK
-        },
+        &instruction(7, (0, 0), (0, 0), 0, (0, 18446744073709551615)),
+    )
+}
+
+// The rest of it.
+fn settling<R: Book, C: Book>(rt: &LibcRuntime, ledger: &mut Ledger<R, C>) -> Result<(), AnyError> {
+    give(
+        rt,
+        ledger,
+        "Earmark",
+        &instruction(4, (0, 0), (0, 0), 127, (0, 0)),
+    )?;
+    give(
+        rt,
+        ledger,
+        "Settle before Fund",
+        &instruction(6, (0, 0), (0, 0), 127, (0, 0)),
+    )?;
+    give(
+        rt,
+        ledger,
+        "Fund",
+        &instruction(5, (0, 0), (0, 0), 127, (0, 0)),
+    )?;
+    give(
+        rt,
+        ledger,
+        "Settle",
+        &instruction(6, (0, 0), (0, 0), 127, (0, 0)),
+    )?;
+    give(
+        rt,
+        ledger,
+        "Free after Settle",
+        &instruction(7, (0, 0), (0, 0), 127, (0, 0)),
     )
 }
 
@@ -166,46 +173,24 @@ fn settlement<R: Book, C: Book>(
     rt: &LibcRuntime,
     ledger: &mut Ledger<R, C>,
 ) -> Result<(), AnyError> {
-    let enter = Instruction {
-        kind: 3,
-        account: 1,
-        counterparty: 2,
-        trade: 127,
-        quantity: 1,
-        amount: 1,
-        ..BLANK
-    };
+    let enter = instruction(3, (1, 2), (0, 0), 127, (1, 1));
     give(
         rt,
         ledger,
         "Issue",
-        &Instruction {
-            kind: 1,
-            account: 1,
-            quantity: 1,
-            ..BLANK
-        },
+        &instruction(1, (1, 0), (0, 0), 0, (1, 0)),
     )?;
     give(
         rt,
         ledger,
         "Pay in",
-        &Instruction {
-            kind: 2,
-            account: 2,
-            amount: 1,
-            ..BLANK
-        },
+        &instruction(2, (2, 0), (0, 0), 0, (0, 1)),
     )?;
     give(
         rt,
         ledger,
         "Earmark before Enter",
-        &Instruction {
-            kind: 4,
-            trade: 127,
-            ..BLANK
-        },
+        &instruction(4, (0, 0), (0, 0), 127, (0, 0)),
     )?;
     give(rt, ledger, "Enter", &enter)?;
     give(rt, ledger, "Enter again", &enter)?;
@@ -213,67 +198,20 @@ fn settlement<R: Book, C: Book>(
         rt,
         ledger,
         "Settle before Earmark",
-        &Instruction {
-            kind: 6,
-            trade: 127,
-            ..BLANK
-        },
+        &instruction(6, (0, 0), (0, 0), 127, (0, 0)),
     )?;
-    give(
-        rt,
-        ledger,
-        "Earmark",
-        &Instruction {
-            kind: 4,
-            trade: 127,
-            ..BLANK
-        },
-    )?;
-    give(
-        rt,
-        ledger,
-        "Settle before Fund",
-        &Instruction {
-            kind: 6,
-            trade: 127,
-            ..BLANK
-        },
-    )?;
-    give(
-        rt,
-        ledger,
-        "Fund",
-        &Instruction {
-            kind: 5,
-            trade: 127,
-            ..BLANK
-        },
-    )?;
-    give(
-        rt,
-        ledger,
-        "Settle",
-        &Instruction {
-            kind: 6,
-            trade: 127,
-            ..BLANK
-        },
-    )?;
-    give(
-        rt,
-        ledger,
-        "Free after Settle",
-        &Instruction {
-            kind: 7,
-            trade: 127,
-            ..BLANK
-        },
-    )
+    settling(rt, ledger)
 }
 
+// A trade's state by its place in the rules' table, from 0, or the refusal.
 fn state_number(answer: Result<State, Refusal>) -> u8 {
     match answer {
-        Ok(_) => 0,
+        Ok(State::Unentered) => 0,
+        Ok(State::Entered) => 1,
+        Ok(State::Earmarked) => 2,
+        Ok(State::Funded) => 3,
+        Ok(State::Settled) => 4,
+        Ok(State::Freed) => 5,
         Err(refusal) => refusal.number(),
     }
 }
@@ -298,20 +236,40 @@ fn all<R: Book, C: Book>(
     states(rt, ledger)
 }
 
-// Whether so many bytes are an instruction, where the byte at one place is 1 and the others are 0.
+fn fields(rt: &LibcRuntime, x: Instruction) -> Result<(), AnyError> {
+    let Instruction {
+        kind,
+        account,
+        counterparty,
+        item,
+        currency,
+        trade,
+        quantity,
+        amount,
+    } = x;
+    print!(rt, "{kind} {account} {counterparty} {item} {currency} ")?;
+    println!(rt, "{trade} {quantity} {amount}")?;
+    Ok(())
+}
+
+// What so many bytes are, where the byte at one place is 1 and the others are 0.
 fn read(rt: &LibcRuntime, count: usize, place: usize) -> Result<(), AnyError> {
     let mut bytes = [0u8; 33];
     if place < 33 {
         bytes[place] = 1;
     }
-    if count <= 33 {
-        let answer = match Instruction::from_bytes(&bytes[0..count]) {
-            Ok(x) => Kind::from_code(x.kind).is_some() as u8,
-            Err(refusal) => refusal.number(),
-        };
-        println!(rt, "  {count} bytes, byte {place} at 1: {answer}")?;
+    if count > 33 {
+        return Ok(());
     }
-    Ok(())
+    print!(rt, "  {count} bytes, byte {place} at 1: ")?;
+    match Instruction::from_bytes(&bytes[0..count]) {
+        Ok(x) => fields(rt, x),
+        Err(refusal) => {
+            let number = refusal.number();
+            println!(rt, "{number}")?;
+            Ok(())
+        }
+    }
 }
 
 pub fn run(rt: &LibcRuntime) -> Result<(), AnyError> {
@@ -319,6 +277,8 @@ pub fn run(rt: &LibcRuntime) -> Result<(), AnyError> {
     all(rt, "balances for balances", &mut ledger)?;
     let mut ledger = Ledger::new(Lots::new(), Balances::new());
     all(rt, "lots for balances", &mut ledger)?;
+    let mut ledger = Ledger::new(Balances::new(), Lots::new());
+    all(rt, "balances for lots", &mut ledger)?;
     println!(rt, "bytes")?;
     for count in [0, 1, 31, 33] {
         read(rt, count, 0)?;

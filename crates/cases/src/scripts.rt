@@ -1,10 +1,10 @@
 // Scripts: malformed lines, numbers at their edges, and inputs of every awkward length.
-use answers::Refusal;
 use balances::Balances;
 use balances::BalancesBook;
 use examination::Stop;
 use examination::answer_script;
 use examination::text::key_text;
+use examination::text::refusal_text;
 use ledger::Ledger;
 use std::error::AnyError;
 
@@ -18,8 +18,8 @@ fn key(rt: &LibcRuntime, script: &[u8]) -> Result<(), AnyError> {
             print!(rt, "{text}")?;
         }
         Err(Stop::Refused(refusal)) => {
-            let number = refusal.number();
-            println!(rt, "0 {number}")?;
+            let text = refusal_text(heap, refusal)?;
+            print!(rt, "{text}")?;
         }
         Err(Stop::NoMemory) => return Err("no memory".into()),
     }
@@ -96,21 +96,18 @@ fn edges(rt: &LibcRuntime) -> Result<(), AnyError> {
     )
 }
 
-// So many line feeds: the number of lines answered, or the refusal.
+// So many line feeds: the number of lines answered, or what is printed of a script that is too long.
 fn long(rt: &LibcRuntime, count: usize) -> Result<(), AnyError> {
     let heap = rt.alloc();
     let script = vec![in heap; b'\n'; count]?;
+    println!(rt, "{count} line feeds")?;
     let mut ledger = Ledger::new(Balances::new(), Balances::new());
     match answer_script(heap, &mut ledger, script.as_slice()) {
         Ok(answers) => {
             let answered = answers.len();
-            println!(rt, "{count} line feeds: {answered} lines")?;
+            println!(rt, "{answered} lines")?;
         }
-        Err(Stop::Refused(refusal)) => {
-            let number = refusal.number();
-            println!(rt, "{count} line feeds: {number}")?;
-        }
-        Err(Stop::NoMemory) => return Err("no memory".into()),
+        Err(_) => key(rt, script.as_slice())?,
     }
     Ok(())
 }

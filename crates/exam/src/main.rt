@@ -4,6 +4,7 @@ use balances::BalancesBook;
 use examination::Stop;
 use examination::answer_script;
 use examination::text::key_text;
+use examination::text::refusal_text;
 use ledger::Ledger;
 use std::error::AnyError;
 use std::io::Read;
@@ -22,8 +23,8 @@ fn main(rt: LibcRuntime) -> Result<(), AnyError> {
             print!(rt, "{key}")?;
         }
         Err(Stop::Refused(refusal)) => {
-            let number = refusal.number();
-            println!(rt, "0 {number}")?;
+            let text = refusal_text(heap, refusal)?;
+            print!(rt, "{text}")?;
         }
         Err(Stop::NoMemory) => return Err("no memory for the key".into()),
     }

@@ -1,5 +1,5 @@
 -- A script on its way. Assumes nothing.
-use Prim.Native.Nat.{ℕ, zero, suc, _≤_}
+use Prim.Native.Nat.{ℕ, _<_, zero, suc, _≤_}
 use mathlib.Core.Path.{_≡_, refl, sym, ap, subst, _∙_}
 use mathlib.Core.List.{List, [], _∷_, _++_, append-assoc}
 use native.Mathlib.Omega.{arith}
@@ -23,6 +23,7 @@ use Rattle.examination.specs.declared.Stop.the-variants.{NoMemory}
 use Rattle.examination.specs.Replies.{reply, moved}
 use Rattle.examination.specs.Key.{answersTo, endOf, tally, Key-law, Keyed, Stopped}
 use Rattle.examination.proofs.Keys.{answers-count, ends, balanced, key-law}
+use Rattle.rulebook.proofs.Givens.{reached-step}
 
 -- how far a script has come: these answers are written, the ledger stands at s, and the rest is still to be read
 pub record Going (h : Rulebook) (script : List ℕ) (answers : List Answer) (s : Standing) (rest : List ℕ) : Type 0 where
@@ -33,13 +34,8 @@ pub record Going (h : Rulebook) (script : List ℕ) (answers : List Answer) (s :
   pub stands : s ≡ endOf h empty (take line (linesOf script))
 
 module _ (h : Rulebook) where
-  -- an accepted instruction leads on, a refused one stays
-  stepped : (s : Standing) (x : Instruction) → Reached h s → (r : Result (Unit {0}) Refusal) → answer h s x ≡ r → Reached h (onOk r (effect s x) s)
-  stepped s x (xs, run) (Ok u) e = (xs ++ (x ∷ []), more x run e)
-  stepped s x z (Err f) e = z
-
   moves-on : (s : Standing) (q : Result Request Refusal) → Reached h s → Reached h (moved h s q)
-  moves-on s (Ok (Instruct x)) z = stepped s x z (answer h s x) refl
+  moves-on s (Ok (Instruct x)) z = reached-step h s x z
   moves-on s (Ok (Register p)) z = z
   moves-on s (Ok (Cash p)) z = z
   moves-on s (Err r) z = z
@@ -98,9 +94,17 @@ module _ (h : Rulebook) where
         answers-are = is;
         count = ap length is ∙ long;
         law = subst (λ z. Key-law h ls z) (sym is) (key-law h ls);
-        books = λ d a i. subst (λ z. Balanced d (tally ls answers) (z .book d) a i) (sym at) (subst (λ xs. Balanced d xs (standingAfter xs .book d) a i) same (balanced h ls (g .line) d a i));
+        books = λ d a i. subst (λ z. Balanced d (tally ls answers) a i (z .book d .free a i) (z .book d .blocked a i)) (sym at)
+            (subst (λ xs. Balanced d xs a i (standingAfter xs .book d .free a i) (standingAfter xs .book d .blocked a i)) same (balanced h ls (g .line) d a i));
         stands = at;
       }
 
-  pub going-stop : (script : List ℕ) (answers : List Answer) (before s : Standing) (rest : List ℕ) → Going h script answers s rest → length script ≤ 65536 → Stopped h before s script NoMemory
-  going-stop script answers before s rest g short = (short, (g .line, g .stands))
+  some-left : {X : Type 0} (ls : List X) (n : ℕ) (x : X) (xs : List X) → x ∷ xs ≡ drop n ls → n < length ls
+  some-left [] zero x xs e = absurd (let z : _≡_ {A = ℕ} 0 1 = cc in omega arith)
+  some-left [] (suc n) x xs e = absurd (let z : _≡_ {A = ℕ} 0 1 = cc in omega arith)
+  some-left (l ∷ ls) zero x xs e = omega arith
+  some-left (l ∷ ls) (suc n) x xs e = let z = some-left ls n x xs e in omega arith
+
+  pub going-stop : (script : List ℕ) (answers : List Answer) (before s : Standing) (rest l : List ℕ) (ls : List (List ℕ)) → Going h script answers s rest → linesOf rest ≡ l ∷ ls
+      → length script ≤ 65536 → Stopped h before s script NoMemory
+  going-stop script answers before s rest l ls g e short = (short, (g .line, some-left (linesOf script) (g .line) l ls (sym e ∙ g .left), g .stands))

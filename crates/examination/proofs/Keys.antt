@@ -78,7 +78,7 @@ module _ (h : Rulebook) where
     each : (n : ℕ) → n < length ls → getD (answersTo h empty ls) n Done ≡ reply h (standingAfter (upTo-line n)) (requestIn (getD ls n []))
     each n lt = answered ls empty n lt ∙ ap (λ s. reply h s (requestIn (getD ls n []))) (ends n)
 
-    pub balanced : (n : ℕ) (d : Side) (a i : ℕ) → Balanced d (upTo-line n) (standingAfter (upTo-line n) .book d) a i
+    pub balanced : (n : ℕ) (d : Side) (a i : ℕ) → Balanced d (upTo-line n) a i (standingAfter (upTo-line n) .book d .free a i) (standingAfter (upTo-line n) .book d .blocked a i)
     balanced n d a i = law-of-the-ledger h (upTo-line n) (standingAfter (upTo-line n)) (stands n) d a i
 
   -- a question that is answered with amounts is answered with the book's
@@ -87,8 +87,9 @@ module _ (h : Rulebook) where
   held-as false true r q v f e = absurd (let z : _≡_ {A = ℕ} 0 1 = cc in omega arith)
   held-as false false r q v f e = cc
 
-  adds-up : (d : Side) (xs : List Instruction) (b : Holdings) (p : Position) (f : Holding) → f ≡ holdingAt b (p .account) (p .item) → Balanced d xs b (p .account) (p .item) → Adds-up d xs p f
-  adds-up d xs b p f e w = subst (λ g. Adds-up d xs p g) (sym e) (record { whole = w .whole; part = w .part })
+  adds-up : (d : Side) (xs : List Instruction) (b : Holdings) (p : Position) (f : Holding) → f ≡ holdingAt b (p .account) (p .item)
+      → Balanced d xs (p .account) (p .item) (b .free (p .account) (p .item)) (b .blocked (p .account) (p .item)) → Adds-up d xs p f
+  adds-up d xs b p f e w = subst (λ g. Adds-up d xs p g) (sym e) w
 
   module _ (ls : List (List ℕ)) (n : ℕ) (lt : n < length ls) (p : Position) (f : Holding) where
     abbrev xs : List Instruction
@@ -108,6 +109,7 @@ module _ (h : Rulebook) where
   key-law ls = record {
     stands = stands ls;
     each = each ls;
+    books = balanced ls;
     register = λ n p f lt e a. asked-for ls n lt p f securities (Register p) e refl a;
     money = λ n p f lt e a. asked-for ls n lt p f cash (Cash p) e refl a;
     words = last-words;

@@ -11,7 +11,6 @@ use Rattle.instruction.specs.declared.Instruction.{Instruction}
 use Rattle.book.specs.declared.Holding.{Holding}
 use Rattle.rulebook.specs.Terms.{Side, securities, cash}
 use Rattle.rulebook.specs.Rules.{Rulebook, Standing, empty, Runs, Reached}
-use Rattle.rulebook.specs.Tally.{credits, given, received, held}
 use Rattle.rulebook.specs.Law.{Balanced}
 use Rattle.rulebook.specs.Words.{standingAfter, Last-words}
 use Rattle.script.specs.declared.Position.{Position}
@@ -49,11 +48,9 @@ tally [] answers = []
 tally (l ∷ ls) [] = []
 tally (l ∷ ls) (a ∷ answers) = counted (requestIn l) a ++ tally ls answers
 
--- what an account holds, by the tally alone: free and blocked together are credits and receipts less what was
--- given, and blocked is what its open trades hold
-pub record Adds-up (d : Side) (xs : List Instruction) (p : Position) (f : Holding) : Type 0 where
-  pub whole : f .free + f .blocked + given d xs (p .account) (p .item) ≡ credits d xs (p .account) (p .item) + received d xs (p .account) (p .item)
-  pub part : f .blocked ≡ held d xs (p .account) (p .item)
+-- the amounts that a question is answered with are those that the tally says
+abbrev pub Adds-up : Side → List Instruction → Position → Holding → Type 0
+Adds-up d xs p f = Balanced d xs (p .account) (p .item) (f .free) (f .blocked)
 
 -- The law of a key, line by line, n lines having been answered.
 pub record Key-law (h : Rulebook) (lines : List (List ℕ)) (answers : List Answer) : Type 0 where
@@ -61,6 +58,8 @@ pub record Key-law (h : Rulebook) (lines : List (List ℕ)) (answers : List Answ
   pub stands : (n : ℕ) → Runs h (tally (take n lines) (take n answers)) (standingAfter (tally (take n lines) (take n answers)))
   -- the next line is answered by the rules where the tally leads
   pub each : (n : ℕ) → n < length lines → getD answers n Done ≡ reply h (standingAfter (tally (take n lines) (take n answers))) (requestIn (getD lines n []))
+  -- there, each book adds up from the tally, for each account and item
+  pub books : (n : ℕ) (d : Side) (a i : ℕ) → Balanced d (tally (take n lines) (take n answers)) a i (standingAfter (tally (take n lines) (take n answers)) .book d .free a i) (standingAfter (tally (take n lines) (take n answers)) .book d .blocked a i)
   -- a question is answered with what adds up from the tally
   pub register : (n : ℕ) (p : Position) (f : Holding) → n < length lines → requestIn (getD lines n []) ≡ Ok (Register p) → getD answers n Done ≡ Held f → Adds-up securities (tally (take n lines) (take n answers)) p f
   pub money : (n : ℕ) (p : Position) (f : Holding) → n < length lines → requestIn (getD lines n []) ≡ Ok (Cash p) → getD answers n Done ≡ Held f → Adds-up cash (tally (take n lines) (take n answers)) p f
@@ -74,11 +73,11 @@ pub record Keyed (h : Rulebook) (after : Standing) (script : List ℕ) (answers 
   pub count : length answers ≡ length (linesOf script)
   pub law : Key-law h (linesOf script) answers
   -- each book adds up from the tally, for each account and item
-  pub books : (d : Side) (a i : ℕ) → Balanced d (tally (linesOf script) answers) (after .book d) a i
+  pub books : (d : Side) (a i : ℕ) → Balanced d (tally (linesOf script) answers) a i (after .book d .free a i) (after .book d .blocked a i)
   pub stands : after ≡ standingAfter (tally (linesOf script) answers)
 
--- A script that got none: too long, and nothing was done; or there was no memory for all answers, and the ledger
--- stands after some of its lines.
+-- A script that got none: too long, and nothing was done; or no memory was found for the answer to line n + 1, and
+-- the ledger stands after the n lines before it.
 abbrev pub Stopped : Rulebook → Standing → Standing → List ℕ → Stop → Type 0
 Stopped h before after script (Refuses r) = (65536 < length script) × (r ≡ InputTooLong) × (after ≡ before)
-Stopped h before after script NoMemory = (length script ≤ 65536) × ((n : ℕ) × (after ≡ endOf h empty (take n (linesOf script))))
+Stopped h before after script NoMemory = (length script ≤ 65536) × ((n : ℕ) × (n < length (linesOf script)) × (after ≡ endOf h empty (take n (linesOf script))))

@@ -1,5 +1,5 @@
 -- What one line is answered, and where it leaves the ledger. Assumes nothing.
-use Prim.Native.Nat.{ℕ}
+use mathlib.Core.Path.{_≡_}
 use Rattle.std.specs.declared.result.Result.{Result}
 use Rattle.std.specs.declared.result.Result.the-variants.{Ok, Err}
 use Rattle.answers.specs.declared.Refusal.{Refusal}
@@ -41,3 +41,9 @@ moved h s (Ok (Instruct x)) = step h s x
 moved h s (Ok (Register p)) = s
 moved h s (Ok (Cash p)) = s
 moved h s (Err r) = s
+
+-- a line that is not answered with a plain 0 leaves the ledger as it was, wherever it stood
+abbrev pub Kept-unless-done : Answer → Standing → Standing → Type 0
+Kept-unless-done Done before after = Unit {0}
+Kept-unless-done (Held f) before after = after ≡ before
+Kept-unless-done (Refused f) before after = after ≡ before

@@ -2,6 +2,7 @@
 use Prim.Native.Nat.{ℕ, _+_}
 use mathlib.Core.List.{List, [], _∷_, _++_}
 use Rattle.std.specs.Written.{decimal}
+use Rattle.answers.specs.declared.Refusal.{Refusal}
 use Rattle.answers.specs.Numbers.{numberOf}
 use Rattle.examination.specs.declared.Answer.{Answer}
 use Rattle.examination.specs.declared.Answer.the-variants.{Done, Held, Refused}
@@ -20,3 +21,7 @@ lineText n a = decimal n ++ (32 ∷ answerThen a (10 ∷ []))
 abbrev pub keyText : ℕ → List Answer → List ℕ
 keyText n [] = []
 keyText n (a ∷ rest) = lineText n a ++ keyText (n + 1) rest
+
+-- a script that is refused as a whole: 0, a space, the refusal's number and a line feed
+abbrev pub refusedText : Refusal → List ℕ
+refusedText r = 48 ∷ 32 ∷ (decimal (numberOf r) ++ (10 ∷ []))

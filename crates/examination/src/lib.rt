@@ -6,7 +6,7 @@ ghost use Rattle.rulebook.specs.Rules.{Reached};
 ghost use Rattle.ledger.specs.View.{rulebook, standingOf};
 ghost use Rattle.script.specs.Requests.{requestIn};
 ghost use Rattle.script.specs.Feeds.{linesOf};
-ghost use Rattle.examination.specs.Replies.{reply, moved, heldReply};
+ghost use Rattle.examination.specs.Replies.{reply, moved, heldReply, Kept-unless-done};
 ghost use Rattle.examination.specs.Key.{Keyed, Stopped};
 
 pub mod text;
@@ -54,6 +54,7 @@ fn held(answer: Result<Holding, Refusal>) -> Answer
 pub fn answer_line<R: Book, C: Book>(ledger: &mut Ledger<R, C>, line: &[u8]) -> Answer
     ensures answer { λ r. ⌜ r ≡ reply (rulebook (R·Book .fixed) (C·Book .fixed)) (standingOf (R·Book .holdings) (C·Book .holdings) (now (ledger .entry))) (requestIn (now (line .entry))) ⌝ }
     ensures after { λ _. ⌜ (Reached (rulebook (R·Book .fixed) (C·Book .fixed)) (standingOf (R·Book .holdings) (C·Book .holdings) (now (ledger .entry))) → standingOf (R·Book .holdings) (C·Book .holdings) (now (ledger .exit)) ≡ moved (rulebook (R·Book .fixed) (C·Book .fixed)) (standingOf (R·Book .holdings) (C·Book .holdings) (now (ledger .entry))) (requestIn (now (line .entry)))) ⌝ }
+    ensures kept { λ r. ⌜ Kept-unless-done r (standingOf (R·Book .holdings) (C·Book .holdings) (now (ledger .entry))) (standingOf (R·Book .holdings) (C·Book .holdings) (now (ledger .exit))) ⌝ }
 {
     match read_line(line) {
         Ok(Request::Instruct(x)) => match ledger.instruct(&x) {

@@ -2,8 +2,9 @@
 ghost use mathlib.Core.Path.{_≡_};
 ghost use Rattle.std.specs.Of.String.{string-bytes};
 ghost use Rattle.std.specs.Vec.{made};
-ghost use Rattle.examination.specs.Texts.{lineText, keyText};
+ghost use Rattle.examination.specs.Texts.{lineText, keyText, refusedText};
 use crate::Answer;
+use answers::Refusal;
 use std::alloc::AllocError;
 use std::alloc::Global;
 
@@ -37,4 +38,12 @@ pub fn key_text(heap: Global, answers: &[Answer]) -> Result<String, AllocError>
         text.push_str(line.as_str())?;
     }
     Ok(text)
+}
+
+// What is printed where the whole script is refused: line 0 and the refusal's number.
+pub fn refusal_text(heap: Global, refusal: Refusal) -> Result<String, AllocError>
+    ensures { λ r. ⌜ made r (λ t. string-bytes t ≡ refusedText refusal) ⌝ }
+{
+    let number = refusal.number();
+    format!(heap, "0 {number}\n")
 }

@@ -123,13 +123,6 @@ carried h r c r′ c′ rows rows′ x k kk whole (xs, run) ok er ec e =
     (λ u. ap (λ z. stateAt z u) e ∙ tr .states u ∙ ap (λ k. turned (after k) (stateAt rows) (x .trade) u) (sym kk))
     (λ u. ap (λ z. termsAt z u) e ∙ tr .terms u ∙ ap (λ k. termsAfter (isEnter k) (termsAt rows) x u) (sym kk))
 
--- a refused instruction changes nothing
-pub refused : (h : Rulebook) (s : Standing) (x : Instruction) (f : Refusal) → answer h s x ≡ Err f → step h s x ≡ s
-refused h s x f e = ap (λ r. onOk r (effect s x) s) e
-
-pub accepted : (h : Rulebook) (s : Standing) (x : Instruction) → answer h s x ≡ Ok tt → step h s x ≡ effect s x
-accepted h s x e = ap (λ r. onOk r (effect s x) s) e
-
 -- the answer by the kind that the kind byte says
 pub answer-as : (h : Rulebook) (s : Standing) (x : Instruction) (k : Act) (r : Result (Unit {0}) Refusal) → k ≡ kindAt (x .kind) → r ≡ answerAs h k s x → answer h s x ≡ r
 answer-as h s x k r e a = ap (λ k. answerAs h k s x) (sym e) ∙ sym a

@@ -1,10 +1,11 @@
 // The ledger: trades over a register of securities and a cash book, and the rules of settlement.
 ghost use mathlib.Core.Path.{_≡_};
 ghost use Rattle.rulebook.specs.Terms.{securities as inSecurities, cash as inCash};
-ghost use Rattle.rulebook.specs.Rules.{empty, step, verdict, faultOf, Reached};
+ghost use Rattle.rulebook.specs.Rules.{empty, verdict, faultOf, Reached};
 ghost use Rattle.ledger.specs.Rows.{stateQuestion};
 ghost use Rattle.ledger.specs.View.{rulebook, standingOf, holdingQuestion};
-ghost use Rattle.rulebook.specs.Words.{By-the-table};
+ghost use Rattle.rulebook.specs.Table.{State-table};
+ghost use Rattle.rulebook.specs.Law.{Given, Kept-if-refused};
 
 mod carrying;
 mod judging;
@@ -78,8 +79,9 @@ impl<R: Book, C: Book> Ledger<R, C> {
     // instructions is one that accepted instructions led to, so there is no step of it that the clause leaves out.
     pub fn instruct(&mut self, x: &Instruction) -> Result<(), Fault>
         ensures answer { λ r. ⌜ r ≡ verdict (rulebook (R·Book .fixed) (C·Book .fixed)) (standingOf (R·Book .holdings) (C·Book .holdings) (now (self .entry))) (now (x .entry)) ⌝ }
-        ensures after { λ _. ⌜ (Reached (rulebook (R·Book .fixed) (C·Book .fixed)) (standingOf (R·Book .holdings) (C·Book .holdings) (now (self .entry))) → standingOf (R·Book .holdings) (C·Book .holdings) (now (self .exit)) ≡ step (rulebook (R·Book .fixed) (C·Book .fixed)) (standingOf (R·Book .holdings) (C·Book .holdings) (now (self .entry))) (now (x .entry))) ⌝ }
-        ensures table { λ _. ⌜ By-the-table (rulebook (R·Book .fixed) (C·Book .fixed)) (standingOf (R·Book .holdings) (C·Book .holdings) (now (self .entry))) (now (x .entry)) ⌝ }
+        ensures after { λ _. ⌜ (Reached (rulebook (R·Book .fixed) (C·Book .fixed)) (standingOf (R·Book .holdings) (C·Book .holdings) (now (self .entry))) → Given (rulebook (R·Book .fixed) (C·Book .fixed)) (standingOf (R·Book .holdings) (C·Book .holdings) (now (self .entry))) (standingOf (R·Book .holdings) (C·Book .holdings) (now (self .exit))) (now (x .entry))) ⌝ }
+        ensures kept { λ r. ⌜ Kept-if-refused r (standingOf (R·Book .holdings) (C·Book .holdings) (now (self .entry))) (standingOf (R·Book .holdings) (C·Book .holdings) (now (self .exit))) ⌝ }
+        ensures table { λ _. ⌜ State-table ⌝ }
     {
         let Some(kind) = Kind::from_code(x.kind) else {
             return Err(Fault::plain(Refusal::UnknownKind));

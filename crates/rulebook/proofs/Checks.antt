@@ -20,8 +20,7 @@ use Rattle.rulebook.specs.declared.State.the-variants.{Unentered, Entered}
 use Rattle.rulebook.specs.declared.Terms.{Terms}
 use Rattle.rulebook.specs.Table.{Act, starts}
 use Rattle.rulebook.specs.Terms.{Side, securities, cash}
-use Rattle.rulebook.specs.Rules.{Rulebook, Standing, holds, isSettled, allChecks, isEnter}
-use Rattle.rulebook.specs.Words.{OfTrade}
+use Rattle.rulebook.specs.Rules.{Rulebook, Standing, holds, isSettled, allChecks, isEnter, OfTrade}
 
 pub passes : (cs : List Check) → Clear cs → first cs ≡ Ok tt
 passes [] c = refl

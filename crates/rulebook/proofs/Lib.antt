@@ -6,3 +6,4 @@ pub mod Whole
 pub mod Safe
 pub mod Carries
 pub mod Meanings
+pub mod Givens

@@ -22,9 +22,9 @@ use Rattle.rulebook.specs.declared.State.the-variants.{Unentered, Entered, Ear
 use Rattle.rulebook.specs.declared.Terms.{Terms}
 use Rattle.rulebook.specs.Table.{Act, after, starts, next, Steps}
 use Rattle.rulebook.specs.Terms.{noTerms, termsOf}
-use Rattle.rulebook.specs.Rules.{Rulebook, Standing, empty, allChecks, at, turned, effect, Runs, start, more}
+use Rattle.rulebook.specs.Rules.{Rulebook, Standing, empty, allChecks, answer, at, turned, effect, Runs, start, more, OfTrade}
 use Rattle.rulebook.specs.Tally.{readState, readTerms}
-use Rattle.rulebook.specs.Words.{After, OfTrade, On, EnterOn, Last-words, standingAfter, By-the-table}
+use Rattle.rulebook.specs.Words.{After, On, EnterOn, Last-words, standingAfter}
 use Rattle.rulebook.proofs.Checks.{right, enter-code}
 use Rattle.rulebook.proofs.Tables.{state-table}
 
@@ -107,10 +107,9 @@ moves-as h s x Fund t p = steps Fund (s .state (x .trade)) Funded (s .state) (x 
 moves-as h s x Settle t p = steps Settle (s .state (x .trade)) Settled (s .state) (x .trade) refl (right h (Some Settle) (s .state (x .trade)) (s .terms (x .trade)) s x t p .from)
 moves-as h s x Free t p = steps Free (s .state (x .trade)) Freed (s .state) (x .trade) refl (right h (Some Free) (s .state (x .trade)) (s .terms (x .trade)) s x t p .from)
 
-pub by-the-table : (h : Rulebook) (s : Standing) (x : Instruction) → By-the-table h s x
-by-the-table h s x = record {
-  table = state-table;
-  moves = λ ok k e t.
-      let m = moves-as h s x k t (subst (λ a. first (allChecks h a (s .state (x .trade)) (s .terms (x .trade)) s x) ≡ Ok tt) e ok) in
-      subst (λ a. Steps (s .state (x .trade)) k (turned (after a) (s .state) (x .trade) (x .trade))) (sym e) m;
-}
+-- an accepted instruction of a trade moves it by one of the table's steps
+pub moves : (h : Rulebook) (s : Standing) (x : Instruction) → answer h s x ≡ Ok tt → (k : Kind) → kindAt (x .kind) ≡ Some k → OfTrade (Some k)
+    → Steps (s .state (x .trade)) k (effect s x .state (x .trade))
+moves h s x ok k e t =
+    let m = moves-as h s x k t (subst (λ a. first (allChecks h a (s .state (x .trade)) (s .terms (x .trade)) s x) ≡ Ok tt) e ok) in
+    subst (λ a. Steps (s .state (x .trade)) k (turned (after a) (s .state) (x .trade) (x .trade))) (sym e) m

@@ -4,26 +4,29 @@ use mathlib.Core.Path.{_≡_}
 use mathlib.Core.Bool.{true}
 use mathlib.Core.List.{List}
 use mathlib.Core.Logic.{_⊎_}
-use Rattle.std.specs.declared.result.Result.the-variants.{Ok}
+use Rattle.std.specs.declared.option.Option.the-variants.{Some}
+use Rattle.std.specs.declared.result.Result.{Result}
+use Rattle.std.specs.declared.result.Result.the-variants.{Ok, Err}
+use Rattle.instruction.specs.declared.Kind.{Kind}
 use Rattle.instruction.specs.declared.Instruction.{Instruction}
 use Rattle.instruction.specs.Kinds.{kindAt}
-use Rattle.book.specs.Holdings.{Holdings}
 use Rattle.book.specs.Rulings.{ruling}
 use Rattle.rulebook.specs.declared.State.the-variants.{Unentered}
 use Rattle.rulebook.specs.declared.Terms.{Terms}
 use Rattle.rulebook.specs.Terms.{Side, giver, taker, asset, volume}
-use Rattle.rulebook.specs.Rules.{Rulebook, Standing, Runs, answer, deed, holds}
+use Rattle.rulebook.specs.Table.{Steps}
+use Rattle.rulebook.specs.Rules.{Rulebook, Standing, Runs, Reached, OfTrade, answer, step, deed, holds}
 use Rattle.rulebook.specs.Tally.{credits, given, received, held}
 
 -- For an account and an item: free and blocked together are the credits and what was received, less what was
 -- given; and what is blocked is what its earmarked or funded trades hold, in cash its funded ones.
-pub record Balanced (d : Side) (xs : List Instruction) (b : Holdings) (a i : ℕ) : Type 0 where
-  pub whole : b .free a i + b .blocked a i + given d xs a i ≡ credits d xs a i + received d xs a i
-  pub part : b .blocked a i ≡ held d xs a i
+pub record Balanced (d : Side) (xs : List Instruction) (a i free blocked : ℕ) : Type 0 where
+  pub whole : free + blocked + given d xs a i ≡ credits d xs a i + received d xs a i
+  pub part : blocked ≡ held d xs a i
 
 abbrev pub Law-of-the-ledger : Type 0
 Law-of-the-ledger =
-    (h : Rulebook) (xs : List Instruction) (s : Standing) → Runs h xs s → (d : Side) (a i : ℕ) → Balanced d xs (s .book d) a i
+    (h : Rulebook) (xs : List Instruction) (s : Standing) → Runs h xs s → (d : Side) (a i : ℕ) → Balanced d xs a i (s .book d .free a i) (s .book d .blocked a i)
 
 -- a trade's terms, once it was entered
 pub record Proper (h : Rulebook) (m : Terms) : Type 0 where
@@ -42,3 +45,18 @@ pub record Safe (h : Rulebook) (s : Standing) : Type 0 where
 abbrev pub Carried-out : Rulebook → Standing → Instruction → Type 0
 Carried-out h s x =
     answer h s x ≡ Ok tt → (d : Side) → ruling (h .kind d) (s .book d) (deed (kindAt (x .kind)) d (s .state (x .trade)) (s .terms (x .trade)) x) ≡ Ok tt
+
+-- An instruction was given: where a list of accepted instructions led to the standing before.
+pub record Given (h : Rulebook) (before now-standing : Standing) (x : Instruction) : Type 0 where
+  -- books and trades are those of the rules
+  pub after : now-standing ≡ step h before x
+  -- and accepted instructions lead here too
+  pub reached : Reached h now-standing
+  pub carried-out : Carried-out h before x
+  -- a trade moves by one of the table's steps
+  pub moves : answer h before x ≡ Ok tt → (k : Kind) → kindAt (x .kind) ≡ Some k → OfTrade (Some k) → Steps (before .state (x .trade)) k (now-standing .state (x .trade))
+
+-- a refused instruction leaves books and trades as they were, wherever they stood
+abbrev pub Kept-if-refused : {X E : Type 0} → Result X E → Standing → Standing → Type 0
+Kept-if-refused (Ok u) before now-standing = Unit {0}
+Kept-if-refused (Err f) before now-standing = now-standing ≡ before

@@ -3,7 +3,7 @@ use Prim.Native.Nat.{ℕ}
 use mathlib.Core.Path.{_≡_}
 use mathlib.Core.Bool.{Bool, true, false, _||_, not, cond}
 use mathlib.Core.List.{List, [], _∷_, _++_}
-use lib.Dec.{eqb, leb, ltb}
+use lib.Dec.{T, eqb, leb, ltb}
 use Rattle.std.specs.Options.{mapped}
 use Rattle.std.specs.declared.option.Option.{Option}
 use Rattle.std.specs.declared.option.Option.the-variants.{Some, None}
@@ -53,7 +53,7 @@ isSettled o = eqb (rank o) (rank Settled)
 abbrev pub nonZero : ℕ → Bool
 nonZero n = not (eqb n 0)
 
--- the kinds that this rule book knows
+-- the kinds that the rules know, which so far are the same in every rule book
 abbrev pub known : Rulebook → Act → Bool
 known h (Some Issue) = true
 known h (Some PayIn) = true
@@ -131,6 +131,9 @@ namesTrade (Some Settle) = true
 namesTrade (Some Free) = true
 namesTrade None = false
 
+abbrev pub OfTrade : Act → Type 0
+OfTrade k = T (namesTrade k)
+
 -- its refusal says which
 abbrev pub faultOf : Instruction → Refusal → Fault
 faultOf x r = cond (namesTrade (kindAt (x .kind))) (onTrade r (x .trade)) (plain r)
@@ -142,7 +145,7 @@ withTrade x (Err r) = Err (faultOf x r)
 abbrev pub verdict : Rulebook → Standing → Instruction → Result (Unit {0}) Fault
 verdict h s x = withTrade x (answer h s x)
 
--- what an accepted instruction changes
+-- a function changed at one place
 abbrev pub at : {X : Type 0} → (ℕ → X) → ℕ → X → ℕ → X
 at f t v u = cond (eqb t u) v (f u)
 
@@ -184,6 +187,7 @@ deed (Some Settle) d o m x = moving (giver d m) (taker d m) (asset d m) (volume 
 deed (Some Free) d o m x = cond (holds d o) (releasing (giver d m) (asset d m) (volume d m)) keep
 deed None d o m x = keep
 
+-- what an accepted instruction changes
 abbrev pub effect : Standing → Instruction → Standing
 effect s x =
     let k = kindAt (x .kind) in

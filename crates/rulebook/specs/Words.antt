@@ -5,19 +5,17 @@ use mathlib.Core.List.{List, _∷_, _++_}
 use Rattle.std.specs.Iters.{folded}
 use Rattle.std.specs.shelf.Lists.{All}
 use Rattle.std.specs.declared.option.Option.the-variants.{Some, None}
-use Rattle.std.specs.declared.result.Result.the-variants.{Ok}
-use Rattle.instruction.specs.declared.Kind.{Kind}
 use Rattle.instruction.specs.declared.Kind.the-variants.{Issue, PayIn, Enter, Earmark, Fund, Settle, Free}
 use Rattle.instruction.specs.declared.Instruction.{Instruction}
 use Rattle.instruction.specs.Kinds.{codeOf, kindAt}
 use Rattle.rulebook.specs.declared.State.{State}
 use Rattle.rulebook.specs.declared.State.the-variants.{Unentered, Entered, Earmarked, Funded, Settled, Freed}
-use Rattle.rulebook.specs.Table.{Act, Steps, State-table}
+use Rattle.rulebook.specs.Table.{Act}
 use Rattle.rulebook.specs.Terms.{termsOf}
-use Rattle.rulebook.specs.Rules.{Rulebook, Standing, empty, answer, effect}
+use Rattle.rulebook.specs.Rules.{Standing, OfTrade, empty, effect}
 use Rattle.rulebook.specs.Tally.{stateIn, termsIn}
 
--- the state after an instruction of a kind, by the table
+-- the state after an instruction of a kind, written out again, so that a slip in the table cannot be shared
 abbrev pub After : Act → State → Type 0
 After (Some Issue) s = ⊥
 After (Some PayIn) s = ⊥
@@ -29,16 +27,6 @@ After (Some Free) s = s ≡ Freed
 After None s = ⊥
 
 -- x is an instruction of the trade t
-abbrev pub OfTrade : Act → Type 0
-OfTrade (Some Issue) = ⊥
-OfTrade (Some PayIn) = ⊥
-OfTrade (Some Enter) = Unit {0}
-OfTrade (Some Earmark) = Unit {0}
-OfTrade (Some Fund) = Unit {0}
-OfTrade (Some Settle) = Unit {0}
-OfTrade (Some Free) = Unit {0}
-OfTrade None = ⊥
-
 abbrev pub On : ℕ → Instruction → Type 0
 On t x = OfTrade (kindAt (x .kind)) × (x .trade ≡ t)
 
@@ -54,8 +42,3 @@ pub record Last-words : Type 0 where
 -- where a list of accepted instructions leads
 abbrev pub standingAfter : List Instruction → Standing
 standingAfter xs = folded effect empty xs
-
--- An accepted instruction of a trade moves it by one of the table's steps.
-pub record By-the-table (h : Rulebook) (s : Standing) (x : Instruction) : Type 0 where
-  pub table : State-table
-  pub moves : answer h s x ≡ Ok tt → (k : Kind) → kindAt (x .kind) ≡ Some k → OfTrade (Some k) → Steps (s .state (x .trade)) k (effect s x .state (x .trade))

@@ -1,4 +1,4 @@
-// The trials that every edition of the engine is held to, made on its own books, ledger and instructions.
+// Trials with known results, made on the engine's own books, ledger and instructions.
 ghost use mathlib.Core.Path.{_≡_};
 ghost use Rattle.trials.specs.Marked.{number as numberIn, earmark7, expected, Marked-trials};
 use answers::Refusal;
@@ -100,7 +100,7 @@ fn same_parties() -> u8
     }
 }
 
-// Makes each trial once, and stands for the theorem of all of them.
+// Makes each trial that a fresh book, ledger or instruction can show, and stands for the theorem of all of them.
 pub fn marked_trials() -> Outcomes
     ensures outcomes { λ r. ⌜ r ≡ expected ⌝ }
     ensures rows { λ _. ⌜ Marked-trials ⌝ }

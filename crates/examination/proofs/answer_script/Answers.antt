@@ -2,7 +2,7 @@ use mathlib.Core.Path.{_≡_, sym, ap, subst, _∙_}
 use mathlib.Core.List.{[], _∷_, _++_}
 use native.Mathlib.Omega.{arith}
 use Rattle.std.specs.Of.Vec.{vec-items}
-use Rattle.rulebook.specs.Rules.{Standing}
+use Rattle.script.specs.Feeds.{linesOf}
 use Rattle.ledger.specs.View.{rulebook, standingOf}
 use Rattle.examination.proofs.Course.{Going, going-start, going-more, going-end, going-stop}
 use Rattle.examination.proofs.answer_script.Needs as need
@@ -30,3 +30,11 @@ returns g c =
     let h = rulebook (g .R·Book .fixed) (g .C·Book .fixed) in
     let s = standingOf (g .R·Book .holdings) (g .C·Book .holdings) (c .loop-line .ledger) in
     going-end h (c .args .script .now) (vec-items (c .loop-line .answers)) s (c .loop-line .lines .rest .now) (c .loop-line .inv) (c .in-rest .ensures tt .lines) (c .if-script-gt-LONGEST .left)
+
+pub returns-then-is-err : need.returns-then-is-err
+returns-then-is-err g c =
+    let h = rulebook (g .R·Book .fixed) (g .C·Book .fixed) in
+    let before = standingOf (g .R·Book .holdings) (g .C·Book .holdings) (c .args .ledger .now) in
+    let s = standingOf (g .R·Book .holdings) (g .C·Book .holdings) (c .loop-line .ledger) in
+    going-stop h (c .args .script .now) (vec-items (c .loop-line .answers)) before s (c .loop-line .lines .rest .now) (c .in-Some .line .now) (linesOf (c .next-line .last .self .rest .now))
+    (c .loop-line .inv) (c .in-Some .ensures tt .lines) (c .if-script-gt-LONGEST .left)
