@@ -3,12 +3,11 @@ ghost use mathlib.Core.Path.{_≡_};
 ghost use mathlib.Core.List.{_∷_};
 ghost use Prim.Native.Nat.{_-_, _<_};
 ghost use lib.ListN.{length};
-ghost use Rattle.std.specs.Of.Vec.{vec-items};
 ghost use Rattle.std.specs.Options.{isSome};
 ghost use Rattle.device.specs.Calls.{Read, Write, Sync, filled, if-ok};
 ghost use Rattle.device.specs.Power.{Restart};
-ghost use Rattle.device.specs.Images.{held, put};
-ghost use Rattle.battery.specs.Meaning.{meaning};
+ghost use Rattle.device.specs.Images.{held};
+ghost use Rattle.battery.specs.Meaning.{imageOf, meaning, imageWritten};
 
 mod state;
 
@@ -50,7 +49,7 @@ impl Battery {
         requires in_range { ⌜ block < now self .size ⌝ }
         requires whole { ⌜ length (now bytes) ≡ 256 ⌝ }
         requires calls { ⌜ 0 < now self .left ⌝ }
-        ensures image { λ _. ⌜ vec-items (now (self .exit) .image) ≡ put 257 (vec-items (now (self .entry) .image)) block (0 ∷ now (bytes .entry)) ⌝ }
+        ensures image { λ _. ⌜ imageOf (now (self .exit)) ≡ imageWritten (imageOf (now (self .entry))) block (now (bytes .entry)) ⌝ }
         ensures left { λ _. ⌜ now (self .exit) .left ≡ now (self .entry) .left - 1 ⌝ }
     {
         self.left -= 1;
@@ -69,7 +68,7 @@ pub impl Device for Battery as BatteryDevice {
 
     fn read(&mut self, block: u32, buffer: &mut [u8]) -> Result<(), Fault>
         ensures call { λ r. ⌜ Read (meaning (now (self .entry))) (meaning (now (self .exit))) block (now (buffer .entry)) (now (buffer .exit)) r ⌝ }
-        ensures image { λ r. ⌜ vec-items (now (self .exit) .image) ≡ vec-items (now (self .entry) .image) ⌝ }
+        ensures image { λ r. ⌜ imageOf (now (self .exit)) ≡ imageOf (now (self .entry)) ⌝ }
     {
         admit(self.size, self.left, block, buffer.len())?;
         self.left -= 1;
@@ -82,7 +81,7 @@ pub impl Device for Battery as BatteryDevice {
 
     fn write(&mut self, block: u32, bytes: &[u8]) -> Result<(), Fault>
         ensures call { λ r. ⌜ Write (meaning (now (self .entry))) (meaning (now (self .exit))) block (now (bytes .entry)) r ⌝ }
-        ensures image { λ r. ⌜ vec-items (now (self .exit) .image) ≡ if-ok r (put 257 (vec-items (now (self .entry) .image)) block (0 ∷ now (bytes .entry))) (vec-items (now (self .entry) .image)) ⌝ }
+        ensures image { λ r. ⌜ imageOf (now (self .exit)) ≡ if-ok r (imageWritten (imageOf (now (self .entry))) block (now (bytes .entry))) (imageOf (now (self .entry))) ⌝ }
     {
         admit(self.size, self.left, block, bytes.len())?;
         self.keep(block, bytes);
@@ -91,7 +90,7 @@ pub impl Device for Battery as BatteryDevice {
 
     fn sync(&mut self) -> Result<(), Fault>
         ensures call { λ r. ⌜ Sync (meaning (now (self .entry))) (meaning (now (self .exit))) r ⌝ }
-        ensures image { λ r. ⌜ vec-items (now (self .exit) .image) ≡ vec-items (now (self .entry) .image) ⌝ }
+        ensures image { λ r. ⌜ imageOf (now (self .exit)) ≡ imageOf (now (self .entry)) ⌝ }
     {
         if self.left == 0 {
             return Err(Fault::plain(Refusal::NoCalls));
@@ -104,11 +103,11 @@ pub impl Device for Battery as BatteryDevice {
 pub impl PoweredDevice for Battery as BatteryPowered {
     ghost most = { 4294967295 };
 
-    ghost revives = { λ d _ _ e. vec-items (e .image) ≡ vec-items (d .image) };
+    ghost revives = { λ d _ _ e. imageOf e ≡ imageOf d };
 
     fn restart(&mut self, calls: u32, _remains: &[u8])
         ensures call { λ _. ⌜ Restart (meaning (now (self .entry))) (meaning (now (self .exit))) calls 4294967295 ⌝ }
-        ensures kind { λ _. ⌜ vec-items (now (self .exit) .image) ≡ vec-items (now (self .entry) .image) ⌝ }
+        ensures kind { λ _. ⌜ imageOf (now (self .exit)) ≡ imageOf (now (self .entry)) ⌝ }
     {
         self.left = calls;
     }

@@ -101,7 +101,7 @@ fn all<B: Book>(rt: &LibcRuntime, name: &str, book: &mut B) -> Result<(), AnyErr
     ask(rt, book, 0, 0)
 }
 
-pub fn run(rt: &LibcRuntime) -> Result<(), AnyError> {
+pub(crate) fn run(rt: &LibcRuntime) -> Result<(), AnyError> {
     let mut balances = Balances::new();
     all(rt, "balances", &mut balances)?;
     let mut lots = Lots::new();

@@ -272,7 +272,7 @@ fn read(rt: &LibcRuntime, count: usize, place: usize) -> Result<(), AnyError> {
     }
 }
 
-pub fn run(rt: &LibcRuntime) -> Result<(), AnyError> {
+pub(crate) fn run(rt: &LibcRuntime) -> Result<(), AnyError> {
     let mut ledger = Ledger::new(Balances::new(), Balances::new());
     all(rt, "balances for balances", &mut ledger)?;
     let mut ledger = Ledger::new(Lots::new(), Balances::new());

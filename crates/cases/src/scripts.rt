@@ -112,7 +112,7 @@ fn long(rt: &LibcRuntime, count: usize) -> Result<(), AnyError> {
     Ok(())
 }
 
-pub fn run(rt: &LibcRuntime) -> Result<(), AnyError> {
+pub(crate) fn run(rt: &LibcRuntime) -> Result<(), AnyError> {
     shapes(rt)?;
     edges(rt)?;
     long(rt, 65535)?;

@@ -1,6 +1,6 @@
 -- What the calls of a device answer and change: m is the device before the call, and m′ after it. Assumes nothing.
 use mathlib.Core.Path.{_≡_}
-use mathlib.Core.Bool.{Bool, true, false, cond}
+use mathlib.Core.Bool.{true, false, cond}
 use mathlib.Core.List.{List}
 use Prim.Native.Nat.{ℕ, _-_}
 use lib.Dec.{leb, eqb}
@@ -9,7 +9,6 @@ use Rattle.std.specs.declared.option.Option.{Option}
 use Rattle.std.specs.declared.option.Option.the-variants.{None, Some}
 use Rattle.std.specs.declared.result.Result.{Result}
 use Rattle.std.specs.declared.result.Result.the-variants.{Ok, Err}
-use Rattle.answers.specs.declared.Refusal.{Refusal}
 use Rattle.answers.specs.declared.Refusal.the-variants.{NoBlock, NotABlock, NoCalls, Unreadable}
 use Rattle.answers.specs.declared.Fault.{Fault}
 use Rattle.answers.specs.Faults.{plain, atBlock}

@@ -10,7 +10,8 @@ use answers::Refusal;
 // As many blocks as a device may have.
 const MOST_BLOCKS: usize = 65535;
 
-// How many blocks an image has, in rows of a width: its whole rows, at most 65,535.
+// How many blocks an image has, in rows of a width: its whole rows, at most 65,535. That the image holds bytes is said too,
+// since a device made from it has to show that its blocks do.
 pub fn whole_blocks(image: &[u8], width: usize) -> u32
     ensures value { λ r. ⌜ r ≡ blocks width (now (image .entry)) ⌝ }
     ensures bytes { λ _. ⌜ Bytes (now (image .entry)) ⌝ }

@@ -2,7 +2,7 @@
 use mathlib.Core.Path.{_≡_}
 use mathlib.Core.Bool.{false, cond}
 use mathlib.Core.List.{List}
-use Prim.Native.Nat.{ℕ, _-_, min}
+use Prim.Native.Nat.{ℕ, _-_}
 use lib.Dec.{eqb}
 use lib.ListN.{length, getD, replicate}
 use Rattle.std.specs.declared.option.Option.the-variants.{Some}
@@ -12,7 +12,7 @@ use Rattle.answers.specs.declared.Refusal.the-variants.{NoCalls}
 use Rattle.answers.specs.declared.Fault.{Fault}
 use Rattle.answers.specs.Faults.{plain}
 use Rattle.device.specs.Medium.{Medium}
-use Rattle.device.specs.Calls.{Answer, admitted, and-then, filled, read-answer, SameBlocks}
+use Rattle.device.specs.Calls.{Answer, admitted, and-then, filled, read-answer}
 use Rattle.drill.specs.declared.exercise.Ends.{Ends}
 
 -- a write, a sync and another write: the first that refuses answers

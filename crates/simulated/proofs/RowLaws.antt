@@ -1,7 +1,7 @@
 -- Rows of 514 bytes.
-use mathlib.Core.Path.{_≡_, refl, sym, ap, subst, _∙_}
+use mathlib.Core.Path.{_≡_, sym, ap, subst, _∙_}
 use mathlib.Core.Logic.{_⊎_, inl, inr, _≢_}
-use mathlib.Core.Bool.{Bool, true, false, cond, not}
+use mathlib.Core.Bool.{true, false, not}
 use mathlib.Core.List.{List, [], _∷_, _++_}
 use Prim.Native.Nat.{ℕ, _+_, _<_}
 use native.Mathlib.Omega.{arith}
@@ -10,9 +10,9 @@ use lib.ListN.{length, take, drop, getD, set, replicate, length-take, length-dro
 use borrow.Rule.Slice.PartMut.{putMid}
 use Rattle.std.proofs.shelf.Tests.{cases-bool, cases-lt, cond-both, cond-true, cond-false, ne-eqb, eq-eqb, not-from-true, not-from-false}
 use Rattle.std.proofs.shelf.Lists.{take-all, drop-more, set-at, drop-all, append-nil, append-assoc, take-at, drop-at, getD-at, getD-past, getD-replicate, length-replicate}
-use Rattle.std.specs.declared.option.Option.the-variants.{None, Some}
+use Rattle.std.specs.declared.option.Option.the-variants.{Some}
 use Rattle.device.specs.Bytes.{Bytes, splice}
-use Rattle.device.specs.Images.{kept, readable, held}
+use Rattle.device.specs.Images.{kept, readable}
 use Rattle.device.proofs.Splices.{store-is, cut-bytes, rest-bytes, join-bytes, cons-bytes}
 use Rattle.device.proofs.Meaning.{Shows}
 use Rattle.simulated.specs.Rows.{newer, isLoose, shown, written, keeping, synced, torn, revived}

@@ -15,7 +15,7 @@ use Rattle.device.specs.Bytes.{Bytes}
 use Rattle.device.specs.Images.{blocks, row, put, of-row, EachRow}
 use Rattle.device.proofs.Rows.{room, row-full, row-same, row-other, each-bytes}
 use Rattle.device.proofs.Meaning.{of-row-here, of-row-same, of-row-none}
-use Rattle.simulated.specs.Rows.{isLoose, shown, synced, revived, looseBelow, restarted}
+use Rattle.simulated.specs.Rows.{isLoose, shown, synced, looseBelow, restarted}
 use Rattle.simulated.specs.Lists.{Lists}
 use Rattle.simulated.proofs.RowLaws.{keeping-full, keeping-firm, synced-firm, synced-shown, synced-bytes, revived-any, revived-bytes}
 

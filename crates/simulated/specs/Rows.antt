@@ -10,7 +10,7 @@ use Rattle.std.specs.declared.option.Option.{Option}
 use Rattle.std.specs.declared.option.Option.the-variants.{Some}
 use Rattle.std.specs.declared.result.Result.the-variants.{Ok, Err}
 use Rattle.device.specs.Calls.{Answer}
-use Rattle.device.specs.Images.{blocks, row, kept, readable, held, EachRow}
+use Rattle.device.specs.Images.{blocks, row, put, kept, readable, held, EachRow}
 
 abbrev pub newer : List ℕ → List ℕ
 newer r = take 256 (drop 258 r)
@@ -56,7 +56,15 @@ looseBelow image (suc b) = cond (isLoose (row 514 image b)) (looseBelow image b 
 abbrev pub restarted : List ℕ → List ℕ → ℕ → List ℕ → List ℕ
 restarted image remains b r = cond (isLoose r) (revived (getD remains (looseBelow image b) 0) r) r
 
--- the image after a sync
+-- the image after a write to block b
+abbrev pub imageWritten : List ℕ → ℕ → List ℕ → List ℕ
+imageWritten image b bytes = put 514 image b (written (row 514 image b) bytes)
+
+-- the image ys after a sync of xs
 abbrev pub ImageSynced : Answer → List ℕ → List ℕ → Type 0
 ImageSynced (Ok x) xs ys = EachRow 514 synced (blocks 514 xs) xs ys
 ImageSynced (Err e) xs ys = ys ≡ xs
+
+-- the image ys after a restart of xs
+abbrev pub ImageRestarted : List ℕ → List ℕ → List ℕ → Type 0
+ImageRestarted xs remains ys = EachRow 514 (restarted xs remains) (blocks 514 xs) xs ys

@@ -2,12 +2,10 @@
 ghost use mathlib.Core.Path.{_≡_};
 ghost use Prim.Native.Nat.{_-_, _<_};
 ghost use lib.ListN.{length};
-ghost use Rattle.std.specs.Of.Vec.{vec-items};
 ghost use Rattle.device.specs.Calls.{Read, Write, Sync, if-ok};
 ghost use Rattle.device.specs.Power.{Restart};
-ghost use Rattle.device.specs.Images.{blocks, row, put, EachRow};
-ghost use Rattle.simulated.specs.Rows.{written, restarted, ImageSynced};
-ghost use Rattle.simulated.specs.Meaning.{meaning};
+ghost use Rattle.simulated.specs.Rows.{imageWritten, ImageSynced, ImageRestarted};
+ghost use Rattle.simulated.specs.Meaning.{imageOf, meaning};
 
 mod lists;
 mod rows;
@@ -33,7 +31,7 @@ impl Simulated {
         requires in_range { ⌜ block < now self .size ⌝ }
         requires whole { ⌜ length (now bytes) ≡ 256 ⌝ }
         requires calls { ⌜ 0 < now self .left ⌝ }
-        ensures image { λ _. ⌜ vec-items (now (self .exit) .image) ≡ put 514 (vec-items (now (self .entry) .image)) block (written (row 514 (vec-items (now (self .entry) .image)) block) (now (bytes .entry))) ⌝ }
+        ensures image { λ _. ⌜ imageOf (now (self .exit)) ≡ imageWritten (imageOf (now (self .entry))) block (now (bytes .entry)) ⌝ }
         ensures left { λ _. ⌜ now (self .exit) .left ≡ now (self .entry) .left - 1 ⌝ }
     {
         self.left -= 1;
@@ -54,7 +52,7 @@ pub impl Device for Simulated as SimulatedDevice {
 
     fn read(&mut self, block: u32, buffer: &mut [u8]) -> Result<(), Fault>
         ensures call { λ r. ⌜ Read (meaning (now (self .entry))) (meaning (now (self .exit))) block (now (buffer .entry)) (now (buffer .exit)) r ⌝ }
-        ensures image { λ r. ⌜ vec-items (now (self .exit) .image) ≡ vec-items (now (self .entry) .image) ⌝ }
+        ensures image { λ r. ⌜ imageOf (now (self .exit)) ≡ imageOf (now (self .entry)) ⌝ }
     {
         admit(self.size, self.left, block, buffer.len())?;
         self.left -= 1;
@@ -67,7 +65,7 @@ pub impl Device for Simulated as SimulatedDevice {
 
     fn write(&mut self, block: u32, bytes: &[u8]) -> Result<(), Fault>
         ensures call { λ r. ⌜ Write (meaning (now (self .entry))) (meaning (now (self .exit))) block (now (bytes .entry)) r ⌝ }
-        ensures image { λ r. ⌜ vec-items (now (self .exit) .image) ≡ if-ok r (put 514 (vec-items (now (self .entry) .image)) block (written (row 514 (vec-items (now (self .entry) .image)) block) (now (bytes .entry)))) (vec-items (now (self .entry) .image)) ⌝ }
+        ensures image { λ r. ⌜ imageOf (now (self .exit)) ≡ if-ok r (imageWritten (imageOf (now (self .entry))) block (now (bytes .entry))) (imageOf (now (self .entry))) ⌝ }
     {
         admit(self.size, self.left, block, bytes.len())?;
         self.put_newer(block, bytes);
@@ -76,7 +74,7 @@ pub impl Device for Simulated as SimulatedDevice {
 
     fn sync(&mut self) -> Result<(), Fault>
         ensures call { λ r. ⌜ Sync (meaning (now (self .entry))) (meaning (now (self .exit))) r ⌝ }
-        ensures image { λ r. ⌜ ImageSynced r (vec-items (now (self .entry) .image)) (vec-items (now (self .exit) .image)) ⌝ }
+        ensures image { λ r. ⌜ ImageSynced r (imageOf (now (self .entry))) (imageOf (now (self .exit))) ⌝ }
     {
         if self.left == 0 {
             return Err(Fault::plain(Refusal::NoCalls));
@@ -93,11 +91,11 @@ pub impl Device for Simulated as SimulatedDevice {
 pub impl PoweredDevice for Simulated as SimulatedPowered {
     ghost most = { 4294967295 };
 
-    ghost revives = { λ d _ remains e. EachRow 514 (restarted (vec-items (d .image)) remains) (blocks 514 (vec-items (d .image))) (vec-items (d .image)) (vec-items (e .image)) };
+    ghost revives = { λ d _ remains e. ImageRestarted (imageOf d) remains (imageOf e) };
 
     fn restart(&mut self, calls: u32, remains: &[u8])
         ensures call { λ _. ⌜ Restart (meaning (now (self .entry))) (meaning (now (self .exit))) calls 4294967295 ⌝ }
-        ensures kind { λ _. ⌜ EachRow 514 (restarted (vec-items (now (self .entry) .image)) (now (remains .entry))) (blocks 514 (vec-items (now (self .entry) .image))) (vec-items (now (self .entry) .image)) (vec-items (now (self .exit) .image)) ⌝ }
+        ensures kind { λ _. ⌜ ImageRestarted (imageOf (now (self .entry))) (now (remains .entry)) (imageOf (now (self .exit))) ⌝ }
     {
         self.left = calls;
         let image = self.image.as_mut_slice();

@@ -17,7 +17,8 @@ fn add(list: &mut Vec<u32>, block: u32) -> bool
     list.push(block).is_ok()
 }
 
-// Notes a block that is written, once, and says whether the list is still complete.
+// Notes a block that is to be written, unless it was loose and so is noted already, and says whether the list is complete
+// then.
 pub(crate) fn note(list: &mut Vec<u32>, complete: bool, loose: bool, block: u32) -> bool
     requires { ⌜ ((complete && loose) ≡ true → names (vec-items (now list)) block ≡ true) ⌝ }
     ensures { λ r. ⌜ Noted (vec-items (now (list .entry))) (vec-items (now (list .exit))) complete r loose block ⌝ }

@@ -9,6 +9,7 @@ use crate::rows::restart_row;
 use crate::rows::sync_row;
 use crate::state::ROW;
 
+// Syncs every loose row.
 fn sync_all(image: &mut [u8], size: u32)
     requires { ⌜ 514 * size ≤ length (now image) ⌝ }
     ensures { λ _. ⌜ EachRow 514 synced size (now (image .entry)) (now (image .exit)) ⌝ }
@@ -19,6 +20,7 @@ fn sync_all(image: &mut [u8], size: u32)
     }
 }
 
+// Syncs the loose rows of the blocks on a list. A number that no block has is passed over.
 fn sync_listed(image: &mut [u8], size: u32, list: &[u32])
     requires { ⌜ 514 * size ≤ length (now image) ⌝ }
     ensures { λ _. ⌜ EachRow 514 (syncedIf (now (list .entry))) size (now (image .entry)) (now (image .exit)) ⌝ }
@@ -31,7 +33,7 @@ fn sync_listed(image: &mut [u8], size: u32, list: &[u32])
     }
 }
 
-// Syncs the loose rows: those of the list if it names them all, else whichever they are.
+// Syncs the loose rows, by the list alone if it names them all.
 pub(crate) fn settle(image: &mut [u8], size: u32, list: &[u32], complete: bool)
     requires sized { ⌜ size ≡ blocks 514 (now image) ⌝ }
     requires listed { ⌜ Lists complete (now list) (now image) ⌝ }

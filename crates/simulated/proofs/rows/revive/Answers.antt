@@ -1,8 +1,6 @@
-use mathlib.Core.Path.{_≡_, sym, ap, _∙_}
+use mathlib.Core.Path.{sym, ap, _∙_}
 use Prim.Native.Nat.{ℕ}
-use mathlib.Core.Logic.{_≢_}
 use native.Mathlib.Omega.{arith}
-use borrow.Author.Needs.{needs}
 use Rattle.simulated.specs.Rows.{revived}
 use Rattle.simulated.proofs.RowLaws.{revived-fill, revived-lost}
 use Rattle.simulated.proofs.rows.revive.Needs as need

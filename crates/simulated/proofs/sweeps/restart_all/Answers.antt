@@ -1,15 +1,14 @@
 use mathlib.Core.Path.{_≡_, refl, sym, ap, _∙_}
-use mathlib.Core.Bool.{Bool, cond}
+use mathlib.Core.Bool.{cond}
 use mathlib.Core.List.{List}
 use Prim.Native.Nat.{ℕ, _+_, _*_, _-_, _≤_}
 use native.Mathlib.Omega.{arith}
 use lib.ListN.{length, getD}
-use lib.Dec.{lit≤}
 use Rattle.std.proofs.shelf.Tests.{cond-both}
 use Rattle.device.specs.Images.{row}
 use Rattle.device.proofs.Splices.{mid-is}
 use Rattle.device.proofs.Rows.{row-full, slice-row, each-next, each-more}
-use Rattle.simulated.specs.Rows.{isLoose, revived, looseBelow, restarted}
+use Rattle.simulated.specs.Rows.{isLoose, revived, restarted}
 use Rattle.simulated.proofs.SweepLaws.{restarted-full, loose-more}
 use Rattle.simulated.proofs.sweeps.restart_all.Needs as need
 
