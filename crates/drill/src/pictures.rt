@@ -91,7 +91,7 @@ fn add_row(image: &mut Vec<u8>, row: Row) -> Result<(), AllocError>
 }
 
 // The image of a simulated device with these blocks.
-pub fn simulated_image(heap: Global, rows: &[Row]) -> Result<Vec<u8>, AllocError>
+pub(crate) fn simulated_image(heap: Global, rows: &[Row]) -> Result<Vec<u8>, AllocError>
     ensures { λ r. ⌜ made r (λ v. vec-items v ≡ joined wholeRow (now (rows .entry))) ⌝ }
 {
     let mut image = Vec::new(heap);
@@ -102,7 +102,7 @@ pub fn simulated_image(heap: Global, rows: &[Row]) -> Result<Vec<u8>, AllocError
 }
 
 // The image of a battery-backed device with these blocks.
-pub fn battery_image(heap: Global, rows: &[Row]) -> Result<Vec<u8>, AllocError>
+pub(crate) fn battery_image(heap: Global, rows: &[Row]) -> Result<Vec<u8>, AllocError>
     ensures { λ r. ⌜ made r (λ v. vec-items v ≡ joined keptRow (now (rows .entry))) ⌝ }
 {
     let mut bytes = Vec::new(heap);
