@@ -29,7 +29,7 @@ pub returns : need.returns
 returns g c =
     let h = rulebook (g .R·Book .fixed) (g .C·Book .fixed) in
     let s = standingOf (g .R·Book .holdings) (g .C·Book .holdings) (c .loop-line .ledger) in
-    going-end h (c .args .script .now) (vec-items (c .loop-line .answers)) s (c .loop-line .lines .rest .now) (c .loop-line .inv) (c .in-rest .ensures tt .lines) (c .if-script-gt-LONGEST .left)
+    going-end h (c .args .script .now) (vec-items (c .loop-line .answers)) s (c .loop-line .lines .rest .now) (c .loop-line .inv) (c .in-rest .ensures tt .lines) (omega arith)
 
 pub returns-then-is-err : need.returns-then-is-err
 returns-then-is-err g c =
@@ -37,4 +37,4 @@ returns-then-is-err g c =
     let before = standingOf (g .R·Book .holdings) (g .C·Book .holdings) (c .args .ledger .now) in
     let s = standingOf (g .R·Book .holdings) (g .C·Book .holdings) (c .loop-line .ledger) in
     going-stop h (c .args .script .now) (vec-items (c .loop-line .answers)) before s (c .loop-line .lines .rest .now) (c .in-Some .line .now) (linesOf (c .next-line .last .self .rest .now))
-    (c .loop-line .inv) (c .in-Some .ensures tt .lines) (c .if-script-gt-LONGEST .left)
+    (c .loop-line .inv) (c .in-Some .ensures tt .lines) (omega arith)
