@@ -1,4 +1,6 @@
 // What a call answers when it refuses: the refusal, its number and place, and what it concerns.
+#![tactic(auto)]
+
 ghost use Rattle.std.specs.Prelude.{◌≡◌};
 ghost use Rattle.answers.specs.Numbers.{number_of, place_of, NumbersTellApart};
 ghost use Rattle.answers.specs.Faults.{plain, at_block, on_trade, in_entry, of_trade, of_record};
@@ -101,11 +103,11 @@ impl Refusal {
             | Refusal::SameParties
             | Refusal::EverEntered
             | Refusal::WrongState => Place::Trades,
+            Refusal::Malformed => Place::Journal,
             Refusal::JournalFull
             | Refusal::NotAHeader
             | Refusal::OtherKinds
             | Refusal::TooFewBlocks
-            | Refusal::Malformed
             | Refusal::RulesRefuse
             | Refusal::NoRoom => Place::Journal,
             Refusal::OpeningRefused | Refusal::EngineDown => Place::Engine,
@@ -170,11 +172,11 @@ impl Fault {
     }
 
     // The same, of an instruction that names a trade.
-    pub fn of_trade(self, trade: u32) -> Fault
-        ensures { result ≡ of_trade trade self }
+    pub fn of_trade(self, number: u32) -> Fault
+        ensures { result ≡ of_trade number self }
     {
         Fault {
-            trade: Some(trade),
+            trade: Some(number),
             ..self
         }
     }

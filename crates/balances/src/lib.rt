@@ -1,4 +1,6 @@
 // A book of balances: 64 accounts with a free and a blocked amount of each of 16 items.
+#![tactic(auto)]
+
 mod table;
 
 ghost use Rattle.std.specs.Prelude.{◌≡◌};

@@ -1,4 +1,6 @@
 // A device that a battery backs: what is written is kept, so that nothing is ever loose and a restart loses nothing.
+#![tactic(auto)]
+
 ghost use Rattle.std.specs.Prelude.{◌≡◌, ◌-◌, ◌<◌, ◌∷◌, length, is_some};
 ghost use Rattle.device.specs.Calls.{Read, Write, Sync, filled, if_ok};
 ghost use Rattle.device.specs.Power.{Restart};

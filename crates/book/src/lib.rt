@@ -1,5 +1,7 @@
 // A book of holdings as an interface: whatever keeps one is proved against this meaning, and what uses one is
 // proved from it alone.
+#![tactic(auto)]
+
 ghost use Rattle.std.specs.Prelude.{◌≡◌, ℕ, ◌^◌, ◌<◌, ◌≤◌, ◌⊎◌};
 ghost use Rattle.book.specs.Holdings.{Holdings, BookKind, nothing, limit, total, crediting, blocking, releasing, moving};
 ghost use Rattle.book.specs.Rulings.{ruling, outcome, asked, covering, holding_at, totalled};

@@ -1,4 +1,6 @@
 // Numbers as bytes, the lowest byte first.
+#![tactic(auto)]
+
 ghost use Rattle.std.specs.Prelude.{◌≡◌};
 ghost use Rattle.bytes.specs.Little.{le, bytes, EveryWidth};
 

@@ -1,5 +1,7 @@
 // A block device as an interface: what its calls answer and change is a contract, so that code over any device is
 // proved once. docs/DEVICES.md says it in words.
+#![tactic(auto)]
+
 ghost use Rattle.std.specs.Prelude.{◌≡◌, ℕ, ◌^◌, ◌<◌, List};
 ghost use Rattle.device.specs.Medium.{Medium, Bounded};
 ghost use Rattle.device.specs.Calls.{Read, Write, Sync};

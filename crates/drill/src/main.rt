@@ -1,4 +1,6 @@
 // Cuts the power of both kinds of device, and prints what their blocks hold then.
+#![tactic(auto)]
+
 mod exercise;
 mod pictures;
 

@@ -1,4 +1,6 @@
 // The engine over any device and any two books.
+#![tactic(auto)]
+
 pub mod engine;
 pub mod opening;
 pub mod slip;

@@ -1,4 +1,6 @@
 // The examination program: reads a script from standard input and prints its key.
+#![tactic(auto)]
+
 use anyhow::anyhow;
 use balances::Balances;
 use examination::text::{key_text, refusal_text};

@@ -1,4 +1,6 @@
 // An examination: a script of lines is answered one after another over a ledger, and the answers are the key.
+#![tactic(auto)]
+
 ghost use Rattle.std.specs.Prelude.{◌≡◌, Ok, Err};
 ghost use Rattle.rulebook.specs.Rules.{Reached};
 ghost use Rattle.ledger.specs.View.{rulebook, standing_of};

@@ -1,4 +1,6 @@
 // An instruction to the depository, and its 32 bytes.
+#![tactic(auto)]
+
 ghost use Rattle.std.specs.Prelude.{◌≡◌, ◌+◌, ◌≤◌, length, Ok};
 ghost use Rattle.instruction.specs.Kinds.{code_of, kind_at, KindsAndCodes};
 ghost use Rattle.instruction.specs.Layout.{bytes_of, instruction_in, field, Reads};

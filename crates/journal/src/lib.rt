@@ -1,4 +1,6 @@
 // The journal's blocks and its format.
+#![tactic(auto)]
+
 mod entry;
 mod header;
 mod zeros;

@@ -1,4 +1,6 @@
 // The ledger: trades over a register of securities and a cash book, and the rules of settlement.
+#![tactic(auto)]
+
 ghost use Rattle.std.specs.Prelude.{◌≡◌};
 ghost use Rattle.rulebook.specs.Terms.{securities as in_securities, cash as in_cash};
 ghost use Rattle.rulebook.specs.Rules.{empty, verdict, fault_of, Reached};

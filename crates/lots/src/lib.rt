@@ -1,4 +1,6 @@
 // A book of numbered lots: 256 items of which each is whole, with one of 64 accounts or with none.
+#![tactic(auto)]
+
 mod table;
 
 ghost use Rattle.std.specs.Prelude.{◌≡◌};

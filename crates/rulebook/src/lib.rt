@@ -1,4 +1,6 @@
 // The rule book: trades and their states. Its specs state the rules of settlement and the law of the ledger.
+#![tactic(auto)]
+
 ghost use Rattle.std.specs.Prelude.{◌≡◌, Some};
 ghost use Rattle.rulebook.specs.Table.{next as next_state};
 ghost use Rattle.rulebook.specs.Terms.{terms_of};

@@ -1,4 +1,6 @@
 // The reader of examination scripts: a script's lines, a line's tokens, and the request that a line makes.
+#![tactic(auto)]
+
 ghost use Rattle.std.specs.Prelude.{◌≡◌, ◌<◌, ◌≤◌, true, [], ◌∷◌, length, take, drop, is_some, IfSome, Some, MatchOption, ◌==◌, slice_index};
 ghost use Rattle.std.specs.List.{prefix_len};
 ghost use Rattle.instruction.specs.declared.Kind.TheVariants.{Issue, PayIn, Enter};

@@ -1,4 +1,6 @@
 // A device simulated over an image, which says what a cut of the power leaves of each block that was not synced.
+#![tactic(auto)]
+
 ghost use Rattle.std.specs.Prelude.{◌≡◌, ◌-◌, ◌<◌, length};
 ghost use Rattle.device.specs.Calls.{Read, Write, Sync, if_ok};
 ghost use Rattle.device.specs.Power.{Restart};

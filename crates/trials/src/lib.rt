@@ -1,4 +1,6 @@
 // Trials with known results, made on the engine's own books, ledger and instructions.
+#![tactic(auto)]
+
 ghost use Rattle.std.specs.Prelude.{◌≡◌};
 ghost use Rattle.trials.specs.Marked.{number as number_in, earmark7, expected, MarkedTrials};
 
