@@ -6,7 +6,7 @@ ghost use Rattle.instruction.specs.Kinds.{code_of, kind_at, KindsAndCodes};
 ghost use Rattle.instruction.specs.Layout.{bytes_of, instruction_in, field, Reads};
 
 use answers::Refusal;
-use bytes::{read16, read32, read64, write16, write32, write64};
+use little_endian::{read16, read32, read64, write16, write32, write64};
 
 // What an instruction asks for.
 #[derive(Clone, Copy)]

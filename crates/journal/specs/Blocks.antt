@@ -1,6 +1,6 @@
 -- The journal's blocks as bytes: header, record and mark, both ways. Assumes nothing.
 use Rattle.std.specs.Prelude.{ℕ, ◌-◌, Bool, true, cond, ◌&&◌, List, [], ◌∷◌, ◌++◌, take, drop, replicate, Some, None, Ok, Err, Option, Result, ◌==◌, nat_lt, slice_index}
-use Rattle.bytes.specs.Little.{bytes}
+use Rattle.little_endian.specs.Little.{bytes}
 use Rattle.answers.specs.declared.Refusal.{Refusal}
 use Rattle.answers.specs.declared.Refusal.TheVariants.{NotAHeader, Malformed}
 use Rattle.instruction.specs.declared.Instruction.{Instruction}

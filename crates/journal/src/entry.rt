@@ -5,8 +5,8 @@ ghost use Rattle.journal.specs.Reading.{ReadsMark, ReadsRecord};
 
 use crate::zeros::all_zero;
 use answers::Refusal;
-use bytes::{read32, write32};
 use instruction::Instruction;
+use little_endian::{read32, write32};
 
 pub fn mark_block(entry: u32) -> [u8; 256]
     ensures { result ≡ mark_bytes entry }

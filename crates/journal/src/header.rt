@@ -5,7 +5,7 @@ ghost use Rattle.journal.specs.Reading.{ReadsHeader};
 
 use crate::zeros::all_zero;
 use answers::Refusal;
-use bytes::{read32, write32};
+use little_endian::{read32, write32};
 
 #[derive(Clone, Copy)]
 pub struct Header {

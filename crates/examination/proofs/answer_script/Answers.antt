@@ -16,11 +16,11 @@ pub loop-line-preserved : goal.loop-line-preserved
 loop-line-preserved g c =
     let h = rulebook g.R.Book.fixed g.C.Book.fixed in
     let s = standing_of g.R.Book.holdings g.C.Book.holdings c.loop-line.ledger in
-    let t = standing_of g.R.Book.holdings g.C.Book.holdings c.answer-line.new.ledger in
-    going_more h c.args.script.now (vec_items c.loop-line.answers) (vec_items c.push-reserved.new.self) c.answer-line.result s t
-    c.loop-line.lines.rest.now c.next-line.new.self.rest.now c.in-Some.line.now c.loop-line.invariant c.in-Some.ensures.lines
-    c.answer-line.ensures.answer c.answer-line.ensures.after
-    (c.push-reserved.ensures.items ∙ ap (λ old. old ++ (c.answer-line.result ∷ [])) c.reserve.ensures.items)
+    let t = standing_of g.R.Book.holdings g.C.Book.holdings c.answer_line.new.ledger in
+    going_more h c.args.script.now (vec_items c.loop-line.answers) (vec_items c.push_reserved.new.self) c.answer_line.result s t
+    c.loop-line.lines.rest.now c.next_line.new.self.rest.now c.in-Some.line.now c.loop-line.invariant c.in-Some.ensures.lines
+    c.answer_line.ensures.answer c.answer_line.ensures.after
+    (c.push_reserved.ensures.items ∙ ap (λ old. old ++ (c.answer_line.result ∷ [])) c.reserve.ensures.items)
 
 pub returns : goal.returns
 returns g c =
@@ -28,10 +28,10 @@ returns g c =
     let s = standing_of g.R.Book.holdings g.C.Book.holdings c.loop-line.ledger in
     going_end h c.args.script.now (vec_items c.loop-line.answers) s c.loop-line.lines.rest.now c.loop-line.invariant c.in-default.ensures.lines (omega arith)
 
-pub returns-then-is-err : goal.returns-then-is-err
-returns-then-is-err g c =
+pub returns-then-is_err : goal.returns-then-is_err
+returns-then-is_err g c =
     let h = rulebook g.R.Book.fixed g.C.Book.fixed in
     let before = standing_of g.R.Book.holdings g.C.Book.holdings c.args.ledger.now in
     let s = standing_of g.R.Book.holdings g.C.Book.holdings c.loop-line.ledger in
-    going-stop h c.args.script.now (vec_items c.loop-line.answers) before s c.loop-line.lines.rest.now c.in-Some.line.now (lines_of c.next-line.new.self.rest.now)
+    going-stop h c.args.script.now (vec_items c.loop-line.answers) before s c.loop-line.lines.rest.now c.in-Some.line.now (lines_of c.next_line.new.self.rest.now)
     c.loop-line.invariant c.in-Some.ensures.lines (omega arith)

@@ -7,10 +7,10 @@ use Rattle.script.proofs.Num.{turn, stray, over, start, zero-first, empty, digit
 use Rattle.script.proofs.number.Goals as goal
 use Rattle.script.proofs.number.Goals.{then-n-most-via-then-n-most, then-n-most-via-else-n-most+then-digit-most}
 
-pub returns-then-is-empty : goal.returns-then-is-empty
-returns-then-is-empty c =
+pub returns-then-is_empty : goal.returns-then-is_empty
+returns-then-is_empty c =
     let bs = c.args.digits.now in
-    let v : None ≡ numeral c.args.most bs = sym (empty c.args.most bs (eqb-true (length bs) 0 (sym c.if-is-empty.ensures))) in
+    let v : None ≡ numeral c.args.most bs = sym (empty c.args.most bs (eqb-true (length bs) 0 (sym c.if-is_empty.ensures))) in
     record { value = v; bound = tt; exact = reads-number c.args.most bs None (search rules) v }
 
 pub returns-then-digits-eq48 : goal.returns-then-digits-eq48
@@ -19,20 +19,20 @@ returns-then-digits-eq48 c =
     let v : None ≡ numeral c.args.most bs = sym (zero-first c.args.most bs (omega arith) c.if-digits-eq48.true) in
     record { value = v; bound = tt; exact = reads-number c.args.most bs None (search rules) v }
 
-pub returns-then-not-is-digit : goal.returns-then-not-is-digit
-returns-then-not-is-digit c =
+pub returns-then-not-is_digit : goal.returns-then-not-is_digit
+returns-then-not-is_digit c =
     let bs = c.args.digits.now in
     let i = c.loop-d.d-index in
     let v : None ≡ numeral c.args.most bs =
     sym (sym c.loop-d.invariant.1 ∙ at_drop_more (numeral_from c.args.most c.loop-d.n) bs i 0 (omega arith)
-    ∙ stray c.args.most c.loop-d.n (get_or bs i 0) (drop (i + 1) bs) (sym c.if-not-is-digit.ensures)) in
+    ∙ stray c.args.most c.loop-d.n (get_or bs i 0) (drop (i + 1) bs) (sym c.if-not-is_digit.ensures)) in
     record { value = v; bound = tt; exact = reads-number c.args.most bs None (search rules) v }
 
 pub returns-then-n-most : goal.returns-then-n-most
 returns-then-n-most c =
     let bs = c.args.digits.now in
     let i = c.loop-d.d-index in
-    let d = digit-bounds (get_or bs i 0) (sym c.if-not-is-digit.ensures) in
+    let d = digit-bounds (get_or bs i 0) (sym c.if-not-is_digit.ensures) in
     let e = c.from-digit.ensures in
     let o : c.args.most < c.loop-d.n * 10 + (get_or bs i 0 - 48) = elim c.then-n-most.branch [
       | then-n-most-via-then-n-most w ↦ omega (arith, w.if-n-most.true)
@@ -47,7 +47,7 @@ pub loop-d-preserved : goal.loop-d-preserved
 loop-d-preserved c =
     let bs = c.args.digits.now in
     let i = c.loop-d.d-index in
-    let d = digit-bounds (get_or bs i 0) (sym c.if-not-is-digit.ensures) in
+    let d = digit-bounds (get_or bs i 0) (sym c.if-not-is_digit.ensures) in
     let e = c.from-digit.ensures in (
       omega arith,
       ap (λ x. numeral_from c.args.most (c.loop-d.n * 10 + x) (drop (i + 1) bs)) e

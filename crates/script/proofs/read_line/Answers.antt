@@ -7,5 +7,5 @@ pub returns : goal.returns
 unfolding request_in
 returns c =
     let bs = c.args.line.now in
-    let e : c.ok-or.result ≡ request_in bs = search rules in
+    let e : c.ok_or.result ≡ request_in bs = search rules in
     record { value = e; exact = subst (ReadsLine bs) (sym e) (reads-line bs) }

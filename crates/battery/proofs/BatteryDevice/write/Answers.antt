@@ -12,7 +12,7 @@ returns c =
     let xs = d.image.items in
     let b = c.args.block in
     let bytes = c.args.bytes.now in
-    let ok = admitted-as d.size (blocks 257 xs) d.left b (length bytes) d.sized c.in-ok-admit.ensures in
+    let ok = admitted-as d.size (blocks 257 xs) d.left b (length bytes) d.sized c.in_ok-admit.ensures in
     let whole = (passed (blocks 257 xs) d.left b (length bytes) ok).whole in
     record {
       call = rw (c.keep.ensures.image, c.keep.ensures.left) (write-row 257 held never_loose xs d.left b bytes (0 ∷ bytes) ok (omega (arith, whole)) (held-stored bytes whole));

@@ -6,5 +6,5 @@ use Rattle.drill.proofs.pictures.add_half.Goals as goal
 
 pub returns : goal.returns
 returns c ok =
-    join-both c.args.image.now.items (c.args.flag ∷ []) (replicate 256 c.args.byte) c.push.new.self.items c.extend-from-slice.new.self.items
-    (pushed (c.args.flag ∷ []) refl c.in-ok-push.was c.push.ensures.items) (c.extend-from-slice.ensures.items ∙ cond-true _ _ _ ok)
+    join-both c.args.image.now.items (c.args.flag ∷ []) (replicate 256 c.args.byte) c.push.new.self.items c.extend_from_slice.new.self.items
+    (pushed (c.args.flag ∷ []) refl c.in_ok-push.was c.push.ensures.items) (c.extend_from_slice.ensures.items ∙ cond-true _ _ _ ok)

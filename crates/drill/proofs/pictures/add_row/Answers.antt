@@ -6,5 +6,5 @@ use Rattle.drill.proofs.pictures.add_row.Goals as goal
 pub returns : goal.returns
 returns c ok =
     let r = c.args.row in
-    join-both c.args.image.now.items (half r.flag r.kept) (half r.loose r.newer) c.add-half.new.image.items c.add-half-2.new.image.items
-    (c.in-ok-add-half.ensures refl) (c.add-half-2.ensures ok)
+    join-both c.args.image.now.items (half r.flag r.kept) (half r.loose r.newer) c.add_half.new.image.items c.add_half-2.new.image.items
+    (c.in_ok-add_half.ensures refl) (c.add_half-2.ensures ok)

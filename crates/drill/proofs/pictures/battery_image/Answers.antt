@@ -7,7 +7,7 @@ use Rattle.drill.proofs.pictures.battery_image.Goals as goal
 
 pub loop-row-preserved : goal.loop-row-preserved
 loop-row-preserved c =
-    join-row kept_row c.args.rows.now c.loop-row.row-index _ _ _ c.loop-row-test.true c.loop-row.invariant (c.in-ok-add-half.ensures refl)
+    join-row kept_row c.args.rows.now c.loop-row.row-index _ _ _ c.loop-row-test.true c.loop-row.invariant (c.in_ok-add_half.ensures refl)
 
 pub returns : goal.returns
 returns c = c.loop-row.invariant ∙ ap (flat_map kept_row) (take_all c.loop-row.row-index c.args.rows.now c.loop-row-test.false)

@@ -7,7 +7,7 @@ use Rattle.drill.proofs.pictures.simulated_image.Goals as goal
 
 pub loop-row-preserved : goal.loop-row-preserved
 loop-row-preserved c =
-    join-row whole_row c.args.rows.now c.loop-row.row-index _ _ _ c.loop-row-test.true c.loop-row.invariant (c.in-ok-add-row.ensures refl)
+    join-row whole_row c.args.rows.now c.loop-row.row-index _ _ _ c.loop-row-test.true c.loop-row.invariant (c.in_ok-add_row.ensures refl)
 
 pub returns : goal.returns
 returns c = c.loop-row.invariant ∙ ap (flat_map whole_row) (take_all c.loop-row.row-index c.args.rows.now c.loop-row-test.false)

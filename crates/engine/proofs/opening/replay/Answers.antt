@@ -7,8 +7,8 @@ use Rattle.engine.proofs.opening.replay.Goals as goal
 
 pub loop-done-preserved : goal.loop-done-preserved
 loop-done-preserved g c =
-    let e = c.replay-entry.ensures in
-    let is : c.replay-entry.result ≡ Ok (Some c.in-Ok-Some.x) = search rules in
+    let e = c.replay_entry.ensures in
+    let is : c.replay_entry.result ≡ Ok (Some c.in-Ok-Some.x) = search rules in
     let d = rw is at e in
     next-turn _ _ _ _ _ _ _ _ c.loop-done.invariant c.in-Ok-Some.x _ _ (omega arith) d.answer d.after d.books d.reached
 
@@ -26,8 +26,8 @@ returns-then-done-pairs g c =
 pub returns-in-Ok-None : goal.returns-in-Ok-None
 returns-in-Ok-None g c =
     let t = c.loop-done.invariant in
-    let is : c.replay-entry.result ≡ Ok None = search rules in
-    let d = rw is at c.replay-entry.ensures in
+    let is : c.replay_entry.result ≡ Ok None = search rules in
+    let d = rw is at c.replay_entry.ensures in
     let e = turned _ _ _ _ _ _ _ _ t (omega arith) (Ok None) d.answer in
     record {
       answer = sym (ap (λ (z : Scan). z.outcome) e);

@@ -6,9 +6,9 @@ pub loop-answer-preserved : goal.loop-answer-preserved
 loop-answer-preserved c =
     let old = string_bytes c.loop-answer.text in (
       omega arith,
-      key_more c.args.answers.now c.loop-answer.answer-index c.loop-answer.number old (string_bytes c.push-str.new.self)
-          (string_bytes c.in-ok-line.line) c.loop-answer.invariant.0 c.loop-answer-test.true c.loop-answer.invariant.1 c.in-ok-line.ensures
-          (c.in-ok-push-str.ensures.bytes ∙ ap (λ z. old ++ z) c.as-str.ensures.value),
+      key_more c.args.answers.now c.loop-answer.answer-index c.loop-answer.number old (string_bytes c.push_str.new.self)
+          (string_bytes c.in_ok-line.line) c.loop-answer.invariant.0 c.loop-answer-test.true c.loop-answer.invariant.1 c.in_ok-line.ensures
+          (c.in_ok-push_str.ensures.bytes ∙ ap (λ z. old ++ z) c.as_str.ensures.value),
     )
 
 pub returns : goal.returns

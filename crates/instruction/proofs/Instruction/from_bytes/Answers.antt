@@ -7,4 +7,4 @@ pub returns : goal.returns
 returns c =
     let bs = c.args.bytes.now in
     let e : _ ≡ instruction_in bs = search rules in
-    record { value = e; exact = subst (Reads bs) (sym e) (reads bs (λ i. let f = c.type-inv.bytes i in search rules)) }
+    record { value = e; exact = subst (Reads bs) (sym e) (reads bs (λ i. let f = c.type_inv.bytes i in search rules)) }

@@ -5,17 +5,17 @@ use Rattle.journal.specs.Blocks.{all_zero, record_in}
 use Rattle.journal.proofs.Trips.{reads-record, rest-is}
 use Rattle.journal.proofs.entry.read_record.Goals as goal
 
-pub returns-then-not-all-zero : goal.returns-then-not-all-zero
-returns-then-not-all-zero c =
+pub returns-then-not-all_zero : goal.returns-then-not-all_zero
+returns-then-not-all_zero c =
     let bs = c.args.block.now in
-    let z : false ≡ all_zero (drop 40 bs) = c.if-not-all-zero.ensures ∙ ap all_zero (rest-is bs c.told-block) in
+    let z : false ≡ all_zero (drop 40 bs) = c.if-not-all_zero.ensures ∙ ap all_zero (rest-is bs c.told-block) in
     let e : Err Malformed ≡ record_in c.args.entry bs = search rules in
     record { value = e; exact = reads-record c.args.entry bs _ (search rules) c.told-block c.fits-block e }
 
 pub returns : goal.returns
 returns c =
     let bs = c.args.block.now in
-    let z : true ≡ all_zero (drop 40 bs) = c.if-not-all-zero.ensures ∙ ap all_zero (rest-is bs c.told-block) in
-    let i : c.from-bytes.result ≡ instruction_in (take 32 (drop 8 bs)) = c.from-bytes.ensures.value in
-    let e : c.from-bytes.result ≡ record_in c.args.entry bs = search rules in
+    let z : true ≡ all_zero (drop 40 bs) = c.if-not-all_zero.ensures ∙ ap all_zero (rest-is bs c.told-block) in
+    let i : c.from_bytes.result ≡ instruction_in (take 32 (drop 8 bs)) = c.from_bytes.ensures.value in
+    let e : c.from_bytes.result ≡ record_in c.args.entry bs = search rules in
     record { value = e; exact = reads-record c.args.entry bs _ (search rules) c.told-block c.fits-block e }

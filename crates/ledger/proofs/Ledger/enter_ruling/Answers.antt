@@ -10,17 +10,17 @@ use Rattle.ledger.specs.View.{rulebook}
 use Rattle.rulebook.proofs.Checks.{refused-first, passed_first}
 use Rattle.ledger.proofs.Ledger.enter_ruling.Goals as goal
 
-pub returns-in-err-startable : goal.returns-in-err-startable
-returns-in-err-startable g c =
-    let p = err_from_is_err_and c.from-residual.result c.from-residual.ensures.1 in
+pub returns-in_err-startable : goal.returns-in_err-startable
+returns-in_err-startable g c =
+    let p = err_from_is_err_and c.from_residual.result c.from_residual.ensures.1 in
     let rows = c.args.self.now.trades.rows in
     let t = c.args.x.now.trade in
     rw (p.1, p.2) (refused-first (leb 128 t) (not (starts (Some Enter) (state_at rows t))) NoTrade EverEntered _ (get_or rows t blank)
-    (first (enter_checks (rulebook g.R.Book.fixed g.C.Book.fixed) c.args.x.now)) c.in-err-startable.ensures)
+    (first (enter_checks (rulebook g.R.Book.fixed g.C.Book.fixed) c.args.x.now)) c.in_err-startable.ensures)
 
 pub returns : goal.returns
 returns g c =
     let rows = c.args.self.now.trades.rows in
     let t = c.args.x.now.trade in
-    c.terms-ruling.ensures ∙ passed_first (leb 128 t) (not (starts (Some Enter) (state_at rows t))) NoTrade EverEntered (get_or rows t blank) _
-    (first (enter_checks (rulebook g.R.Book.fixed g.C.Book.fixed) c.args.x.now)) c.in-ok-startable.ensures
+    c.terms_ruling.ensures ∙ passed_first (leb 128 t) (not (starts (Some Enter) (state_at rows t))) NoTrade EverEntered (get_or rows t blank) _
+    (first (enter_checks (rulebook g.R.Book.fixed g.C.Book.fixed) c.args.x.now)) c.in_ok-startable.ensures

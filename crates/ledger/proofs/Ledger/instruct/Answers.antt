@@ -30,7 +30,7 @@ returns-in-Ok g c =
     record {
       answer = sym (ap (with_trade x) a);
       after = λ reached. given h s _ x reached (carried h _ _ _ _ c.args.self.now.trades.rows _ x (Some c.in-Some.kind) (sym c.in-Some.ensures) c.args.self.now.trades.whole reached a
-          c.carry-out.ensures.register c.carry-out.ensures.cash c.carry-out.ensures.trades
+          c.carry_out.ensures.register c.carry_out.ensures.cash c.carry_out.ensures.trades
           ∙ sym (accepted h s x a));
       kept = tt;
       table = state-table;
@@ -43,7 +43,7 @@ returns-in-Err g c =
     let x = c.args.x.now in
     let a = answer-as h s x (Some c.in-Some.kind) (Err c.in-Err.refusal) c.in-Some.ensures c.in-Err.ensures in
     record {
-      answer = ap (λ f. Err f) c.fault-of.ensures ∙ sym (ap (with_trade x) a);
+      answer = ap (λ f. Err f) c.fault_of.ensures ∙ sym (ap (with_trade x) a);
       after = λ reached. given h s s x reached (sym (refused h s x c.in-Err.refusal a));
       kept = refl;
       table = state-table;

@@ -7,9 +7,9 @@ use Rattle.ledger.specs.Rows.{blank, state_at}
 use Rattle.rulebook.proofs.Checks.{refused-first}
 use Rattle.ledger.proofs.Ledger.start_ruling.Goals as goal
 
-pub returns-in-err-startable : goal.returns-in-err-startable
-returns-in-err-startable g c =
-    let p = err_from_is_err_and c.from-residual.result c.from-residual.ensures.1 in
+pub returns-in_err-startable : goal.returns-in_err-startable
+returns-in_err-startable g c =
+    let p = err_from_is_err_and c.from_residual.result c.from_residual.ensures.1 in
     let rows = c.args.self.now.trades.rows in
     let t = c.args.x.now.trade in
-    rw (p.1, p.2) (refused-first (leb 128 t) (not (starts (Some c.args.kind) (state_at rows t))) NoTrade WrongState _ (get_or rows t blank) (first []) c.in-err-startable.ensures)
+    rw (p.1, p.2) (refused-first (leb 128 t) (not (starts (Some c.args.kind) (state_at rows t))) NoTrade WrongState _ (get_or rows t blank) (first []) c.in_err-startable.ensures)

@@ -8,14 +8,17 @@ use Rattle.lots.specs.Deeds.{owned-set, credit-done}
 use Rattle.lots.proofs.LotsBook.credit.Goals as goal
 
 -- whatever the lot becomes, its owner is the account
-pub invariant-of-self : goal.invariant-of-self
-invariant-of-self c =
+pub invariant_of-self : goal.invariant_of-self
+invariant_of-self c =
     let book = c.args.self.now in
-    let fits = credit-fits lots_kind (meaning book) c.args.account c.args.item c.args.quantity c.in-ok-credit-ruling.ensures in
+    let fits = credit-fits lots_kind (meaning book) c.args.account c.args.item c.args.quantity c.in_ok-credit_ruling.ensures in
     let there : c.args.item < length book.lots = omega (arith, book.full) in
-    (length-set book.lots c.args.item _ ∙ book.full, (owned-set book.lots c.args.item _ there (lt-ltb c.args.account 64 fits.0) book.owned, tt))
+    record {
+      full = length-set book.lots c.args.item _ ∙ book.full;
+      owned = owned-set book.lots c.args.item _ there (lt-ltb c.args.account 64 fits.0) book.owned;
+    }
 
 pub returns : goal.returns
 returns c =
-    let d = credit-done c.args.self.now c.args.account c.args.item c.args.quantity c.in-ok-credit-ruling.ensures in
+    let d = credit-done c.args.self.now c.args.account c.args.item c.args.quantity c.in_ok-credit_ruling.ensures in
     search rules

@@ -5,5 +5,5 @@ use Rattle.lots.proofs.LotsBook.transfer.Goals as goal
 
 pub returns : goal.returns
 returns c =
-    let d = move-done c.args.self.now c.args.from c.args.item c.args.quantity c.in-ok-blocked.blocked OverBlocked c.in-ok-covers.ensures c.in-ok-blocked.ensures c.args.to c.if-to-ge-ACCOUNTS.false in
+    let d = move-done c.args.self.now c.args.from c.args.item c.args.quantity c.in_ok-blocked.blocked OverBlocked c.in_ok-covers.ensures c.in_ok-blocked.ensures c.args.to c.if-to-ge-ACCOUNTS.false in
     search rules

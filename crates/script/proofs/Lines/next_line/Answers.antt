@@ -6,21 +6,21 @@ use Rattle.script.specs.Feeds.{in_line, first_line, after_line, lines_of}
 use Rattle.script.proofs.Feeding.{lines_of-none, lines_of-more, splits}
 use Rattle.script.proofs.Lines.next_line.Goals as goal
 
-pub returns-then-is-empty : goal.returns-then-is-empty
-returns-then-is-empty c =
+pub returns-then-is_empty : goal.returns-then-is_empty
+returns-then-is_empty c =
     let bs = c.args.self.now.rest.now in
-    let e : bs ≡ [] = nil_from_length bs (eqb-true (length bs) 0 (sym c.if-is-empty.ensures)) in
+    let e : bs ≡ [] = nil_from_length bs (eqb-true (length bs) 0 (sym c.if-is_empty.ensures)) in
     record { line = e; left = e ∙ ap after_line (sym e); shorter = search rules; lines = ap lines_of e ∙ lines_of-none; whole = splits bs }
 
 pub returns : goal.returns
 returns c =
     let bs = c.args.self.now.rest.now in
     let some : 0 < length bs = search rules in
-    let front = sym c.cut-line.ensures.line in
-    let left = c.cut-line.ensures.left in
+    let front = sym c.cut_line.ensures.line in
+    let left = c.cut_line.ensures.left in
     let back = sym left in
     record {
-      line = (some, c.cut-line.ensures.line);
+      line = (some, c.cut_line.ensures.line);
       left = left;
       shorter = λ _. let e = ap length left in omega (arith, e, length-drop 1 (drop (prefix_len in_line bs) bs), length-drop (prefix_len in_line bs) bs);
       lines = lines_of-more bs some ∙ (λ k. front k ∷ lines_of (back k));

@@ -10,6 +10,6 @@ pub returns-in-Digits : goal.returns-in-Digits
 unfolding field_of past
 returns-in-Digits c = search rules
 
-pub returns-in-default-next-token : goal.returns-in-default-next-token
+pub returns-in-default-next_token : goal.returns-in-default-next_token
 unfolding field_of past
-returns-in-default-next-token c = search rules
+returns-in-default-next_token c = search rules

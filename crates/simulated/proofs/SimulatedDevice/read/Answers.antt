@@ -10,11 +10,11 @@ pub returns-then-not-show : goal.returns-then-not-show
 returns-then-not-show c =
     let d = c.args.self.now in
     let b = c.args.block in
-    let ok = admitted-as d.size (blocks 514 d.image.items) d.left b (length c.args.buffer.now) d.sized c.in-ok-admit.ensures in
+    let ok = admitted-as d.size (blocks 514 d.image.items) d.left b (length c.args.buffer.now) d.sized c.in_ok-admit.ensures in
     record {
       call = read-row 514 shown is_loose d.image.items d.left b _ _ _ _ ok
-          (slice-row 514 d.image.items c.as-slice.result.now b c.as-slice.ensures.value)
-          c.show.ensures.buffer (found_none b _ (sym c.if-not-show.ensures.readable) ∙ ap Err (sym c.at-block.ensures));
+          (slice-row 514 d.image.items c.as_slice.result.now b c.as_slice.ensures.value)
+          c.show.ensures.buffer (found_none b _ (sym c.if-not-show.ensures.readable) ∙ ap Err (sym c.at_block.ensures));
       image = refl;
     }
 
@@ -22,10 +22,10 @@ pub returns : goal.returns
 returns c =
     let d = c.args.self.now in
     let b = c.args.block in
-    let ok = admitted-as d.size (blocks 514 d.image.items) d.left b (length c.args.buffer.now) d.sized c.in-ok-admit.ensures in
+    let ok = admitted-as d.size (blocks 514 d.image.items) d.left b (length c.args.buffer.now) d.sized c.in_ok-admit.ensures in
     record {
       call = read-row 514 shown is_loose d.image.items d.left b _ _ _ _ ok
-          (slice-row 514 d.image.items c.as-slice.result.now b c.as-slice.ensures.value)
+          (slice-row 514 d.image.items c.as_slice.result.now b c.as_slice.ensures.value)
           c.show.ensures.buffer (found_some b _ (sym c.show.ensures.readable ∙ c.if-not-show.false));
       image = refl;
     }

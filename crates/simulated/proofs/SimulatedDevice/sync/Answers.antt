@@ -7,14 +7,14 @@ use Rattle.simulated.specs.Rows.{loose_below, synced}
 use Rattle.simulated.proofs.SweepLaws.{lists-none, sync-holds, sync-firm, sync-bytes}
 use Rattle.simulated.proofs.SimulatedDevice.sync.Goals as goal
 
-pub invariant-of-self : goal.invariant-of-self
-invariant-of-self c =
+pub invariant_of-self : goal.invariant_of-self
+invariant_of-self c =
     let d = c.args.self.now in
     let v = d.image in
     let xs = v.items in
     let new = c.settle.new.image in
     let s : EachRow 514 synced (blocks 514 xs) xs new =
-    subst (λ (n : ℕ). EachRow 514 synced n xs new) d.sized (subst (λ (zs : List ℕ). EachRow 514 synced d.size zs new) c.as-mut-slice-image.ensures.value c.settle.ensures) in
+    subst (λ (n : ℕ). EachRow 514 synced n xs new) d.sized (subst (λ (zs : List ℕ). EachRow 514 synced d.size zs new) c.as_mut_slice-image.ensures.value c.settle.ensures) in
     let done : (with_items v new).items ≡ new = with_items_is v new (s.len ∙ sym v.ok.0) in
     let short : length c.clear.new.self.items ≤ loose_below (with_items v new).items d.size = omega (arith, ap length c.clear.ensures.items) in (
       rw done (d.sized ∙ sym (same_blocks 514 xs new s.len)),
@@ -28,7 +28,7 @@ returns c =
     let xs = v.items in
     let new = c.settle.new.image in
     let s : EachRow 514 synced (blocks 514 xs) xs new =
-    subst (λ (n : ℕ). EachRow 514 synced n xs new) d.sized (subst (λ (zs : List ℕ). EachRow 514 synced d.size zs new) c.as-mut-slice-image.ensures.value c.settle.ensures) in
+    subst (λ (n : ℕ). EachRow 514 synced n xs new) d.sized (subst (λ (zs : List ℕ). EachRow 514 synced d.size zs new) c.as_mut_slice-image.ensures.value c.settle.ensures) in
     let done : (with_items v new).items ≡ new = with_items_is v new (s.len ∙ sym v.ok.0) in
     record {
       call = record {

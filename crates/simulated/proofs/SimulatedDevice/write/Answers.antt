@@ -13,12 +13,12 @@ returns c =
     let xs = d.image.items in
     let b = c.args.block in
     let bytes = c.args.bytes.now in
-    let ok = admitted-as d.size (blocks 514 xs) d.left b (length bytes) d.sized c.in-ok-admit.ensures in
+    let ok = admitted-as d.size (blocks 514 xs) d.left b (length bytes) d.sized c.in_ok-admit.ensures in
     let here = passed (blocks 514 xs) d.left b (length bytes) ok in
     let wide = row-full 514 xs b (room 514 xs b here.in-range) in
     let r = written (row 514 xs b) bytes in
     record {
-      call = rw (c.put-newer.ensures.image, c.put-newer.ensures.left)
+      call = rw (c.put_newer.ensures.image, c.put_newer.ensures.left)
           (write-row 514 shown is_loose xs d.left b bytes r ok (written-full (row 514 xs b) bytes wide here.whole) (written-shown (row 514 xs b) bytes wide here.whole));
-      image = c.put-newer.ensures.image;
+      image = c.put_newer.ensures.image;
     }

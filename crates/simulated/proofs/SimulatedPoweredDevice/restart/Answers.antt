@@ -7,20 +7,20 @@ use Rattle.simulated.specs.Rows.{loose_below, restarted}
 use Rattle.simulated.proofs.SweepLaws.{lists-none, restart-holds, restart-firm, restart-bytes}
 use Rattle.simulated.proofs.SimulatedPoweredDevice.restart.Goals as goal
 
-pub invariant-of-self : goal.invariant-of-self
-invariant-of-self c =
+pub invariant_of-self : goal.invariant_of-self
+invariant_of-self c =
     let d = c.args.self.now in
     let v = d.image in
     let xs = v.items in
     let rem = c.args.remains.now in
-    let new = c.restart-all.new.image in
+    let new = c.restart_all.new.image in
     let s : EachRow 514 (restarted xs rem) (blocks 514 xs) xs new =
     subst (λ (n : ℕ). EachRow 514 (restarted xs rem) n xs new) d.sized
-    (subst (λ (zs : List ℕ). EachRow 514 (restarted zs rem) d.size zs new) c.as-mut-slice-image.ensures.value c.restart-all.ensures) in
+    (subst (λ (zs : List ℕ). EachRow 514 (restarted zs rem) d.size zs new) c.as_mut_slice-image.ensures.value c.restart_all.ensures) in
     let done : (with_items v new).items ≡ new = with_items_is v new (s.len ∙ sym v.ok.0) in
     let short : length c.clear.new.self.items ≤ loose_below (with_items v new).items d.size = omega (arith, ap length c.clear.ensures.items) in (
       rw done (d.sized ∙ sym (same_blocks 514 xs new s.len)),
-      (omega arith, (rw done (restart-bytes xs new rem s (λ k. omega (arith, c.type-inv.remains k)) d.bytes), (rw done (lists-none c.clear.new.self.items new (restart-firm xs new rem s)), (short, tt)))),
+      (omega arith, (rw done (restart-bytes xs new rem s (λ k. omega (arith, c.type_inv.remains k)) d.bytes), (rw done (lists-none c.clear.new.self.items new (restart-firm xs new rem s)), (short, tt)))),
     )
 
 pub returns : goal.returns
@@ -29,10 +29,10 @@ returns c =
     let v = d.image in
     let xs = v.items in
     let rem = c.args.remains.now in
-    let new = c.restart-all.new.image in
+    let new = c.restart_all.new.image in
     let s : EachRow 514 (restarted xs rem) (blocks 514 xs) xs new =
     subst (λ (n : ℕ). EachRow 514 (restarted xs rem) n xs new) d.sized
-    (subst (λ (zs : List ℕ). EachRow 514 (restarted zs rem) d.size zs new) c.as-mut-slice-image.ensures.value c.restart-all.ensures) in
+    (subst (λ (zs : List ℕ). EachRow 514 (restarted zs rem) d.size zs new) c.as_mut_slice-image.ensures.value c.restart_all.ensures) in
     let done : (with_items v new).items ≡ new = with_items_is v new (s.len ∙ sym v.ok.0) in
     record {
       call = record {

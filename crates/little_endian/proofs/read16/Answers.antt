@@ -1,6 +1,6 @@
 use Rattle.std.proofs.Common.{◌≡◌, length, arith, rules}
-use Rattle.bytes.proofs.Widths.{le-part, every-width}
-use Rattle.bytes.proofs.read16.Goals as goal
+use Rattle.little_endian.proofs.Widths.{le-part, every-width}
+use Rattle.little_endian.proofs.read16.Goals as goal
 
 pub returns : goal.returns
 returns c =

@@ -1,6 +1,6 @@
 use Rattle.std.proofs.Common.{◌≡◌, length, arith, rules}
-use Rattle.bytes.proofs.Widths.{le-part}
-use Rattle.bytes.proofs.read64.Goals as goal
+use Rattle.little_endian.proofs.Widths.{le-part}
+use Rattle.little_endian.proofs.read64.Goals as goal
 
 pub returns : goal.returns
 returns c =

@@ -2,7 +2,7 @@
 #![tactic(auto)]
 
 ghost use Rattle.std.specs.Prelude.{◌≡◌};
-ghost use Rattle.bytes.specs.Little.{le, bytes, EveryWidth};
+ghost use Rattle.little_endian.specs.Little.{le, bytes, EveryWidth};
 
 // Reading undoes writing and writing undoes reading, for all widths together: it stands here for the three.
 pub fn read16(b: [u8; 2]) -> u16

@@ -2,7 +2,7 @@
 use Rattle.std.proofs.Common.{◌≡◌, ℕ, zero, suc, ◌+◌, ◌*◌, ◌/◌, ◌%◌, ◌^◌, ◌<◌, ◌≤◌, List, [], ◌∷◌, length, get_or, drop, refl, ap, ◌∙◌, div-lt_iff_lt-mul, pow-suc, arith, lit<, drop-cons}
 use native.Mathlib.Nat.{mod-add-div}
 use Rattle.std.proofs.lemmas.List.{drop_all}
-use Rattle.bytes.specs.Little.{le, bytes, Bytes, part, EveryWidth}
+use Rattle.little_endian.specs.Little.{le, bytes, Bytes, part, EveryWidth}
 
 pub le_bytes : (w n : ℕ) → n < 256 ^ w → le (bytes w n) ≡ n
 le_bytes zero n h = omega arith
