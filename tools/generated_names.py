@@ -26,7 +26,7 @@ def rust_names():
 
 
 NAMES = [(n.replace("_", "-"), n) for n in rust_names()]
-FIXED = [("in-ok-", "in_ok-"), ("in-err-", "in_err-"), ("invariant-of-", "invariant_of-"), ("type-inv", "type_inv"), ("overflow-add-", "overflow_add-"),
+FIXED = [("in-ok-", "in_ok-"), ("in-err-", "in_err-"), ("invariant-of-", "invariant_of-"), ("type-inv", "type_inv"), ("in-default", "in_default"), ("overflow-add-", "overflow_add-"),
          ("overflow-sub-", "overflow_sub-"), ("overflow-mul-", "overflow_mul-")]
 
 

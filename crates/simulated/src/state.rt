@@ -34,7 +34,7 @@ impl Simulated {
         ensures left { result.left ≡ calls }
     {
         let size = whole_blocks(image.as_slice(), ROW);
-        let mut list = Vec::new(image.allocator());
+        let mut list = Vec::new(*image.allocator());
         let complete = list_loose(image.as_slice(), size, &mut list);
         Simulated {
             image,

@@ -26,7 +26,7 @@ pub returns : goal.returns
 returns g c =
     let h = rulebook g.R.Book.fixed g.C.Book.fixed in
     let s = standing_of g.R.Book.holdings g.C.Book.holdings c.loop-line.ledger in
-    going_end h c.args.script.now (vec_items c.loop-line.answers) s c.loop-line.lines.rest.now c.loop-line.invariant c.in-default.ensures.lines (omega arith)
+    going_end h c.args.script.now (vec_items c.loop-line.answers) s c.loop-line.lines.rest.now c.loop-line.invariant c.in_default.ensures.lines (omega arith)
 
 pub returns-then-is_err : goal.returns-then-is_err
 returns-then-is_err g c =

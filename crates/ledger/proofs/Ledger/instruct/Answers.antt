@@ -8,14 +8,14 @@ use Rattle.rulebook.proofs.Givens.{given, refused, accepted}
 use Rattle.ledger.proofs.Carried.{carried, answer-as}
 use Rattle.ledger.proofs.Ledger.instruct.Goals as goal
 
-pub returns-in-default : goal.returns-in-default
-returns-in-default g c =
+pub returns-in_default : goal.returns-in_default
+returns-in_default g c =
     let h = rulebook g.R.Book.fixed g.C.Book.fixed in
     let s = standing_of g.R.Book.holdings g.C.Book.holdings c.args.self.now in
     let x = c.args.x.now in
-    let a = answer-as h s x None (Err UnknownKind) c.in-default.ensures refl in
+    let a = answer-as h s x None (Err UnknownKind) c.in_default.ensures refl in
     record {
-      answer = ap (λ f. Err f) (c.plain.ensures ∙ ap (λ k. cond (names_trade k) (on_trade UnknownKind x.trade) (plain UnknownKind)) c.in-default.ensures) ∙ sym (ap (with_trade x) a);
+      answer = ap (λ f. Err f) (c.plain.ensures ∙ ap (λ k. cond (names_trade k) (on_trade UnknownKind x.trade) (plain UnknownKind)) c.in_default.ensures) ∙ sym (ap (with_trade x) a);
       after = λ reached. given h s s x reached (sym (refused h s x UnknownKind a));
       kept = refl;
       table = state-table;

@@ -16,10 +16,14 @@ invariant_of-self c =
     let s : EachRow 514 synced (blocks 514 xs) xs new =
     subst (λ (n : ℕ). EachRow 514 synced n xs new) d.sized (subst (λ (zs : List ℕ). EachRow 514 synced d.size zs new) c.as_mut_slice-image.ensures.value c.settle.ensures) in
     let done : (with_items v new).items ≡ new = with_items_is v new (s.len ∙ sym v.ok.0) in
-    let short : length c.clear.new.self.items ≤ loose_below (with_items v new).items d.size = omega (arith, ap length c.clear.ensures.items) in (
-      rw done (d.sized ∙ sym (same_blocks 514 xs new s.len)),
-      (omega (arith, d.calls), (rw done (sync-bytes xs new s d.bytes), (rw done (lists-none c.clear.new.self.items new (sync-firm xs new s)), (short, tt)))),
-    )
+    let short : length c.clear.new.self.items ≤ loose_below (with_items v new).items d.size = omega (arith, ap length c.clear.ensures.items) in
+    record {
+      sized = rw done (d.sized ∙ sym (same_blocks 514 xs new s.len));
+      calls = omega (arith, d.calls);
+      bytes = rw done (sync-bytes xs new s d.bytes);
+      listed = rw done (lists-none c.clear.new.self.items new (sync-firm xs new s));
+      short = short;
+    }
 
 pub returns : goal.returns
 returns c =

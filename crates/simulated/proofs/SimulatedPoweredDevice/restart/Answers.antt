@@ -18,10 +18,14 @@ invariant_of-self c =
     subst (λ (n : ℕ). EachRow 514 (restarted xs rem) n xs new) d.sized
     (subst (λ (zs : List ℕ). EachRow 514 (restarted zs rem) d.size zs new) c.as_mut_slice-image.ensures.value c.restart_all.ensures) in
     let done : (with_items v new).items ≡ new = with_items_is v new (s.len ∙ sym v.ok.0) in
-    let short : length c.clear.new.self.items ≤ loose_below (with_items v new).items d.size = omega (arith, ap length c.clear.ensures.items) in (
-      rw done (d.sized ∙ sym (same_blocks 514 xs new s.len)),
-      (omega arith, (rw done (restart-bytes xs new rem s (λ k. omega (arith, c.type_inv.remains k)) d.bytes), (rw done (lists-none c.clear.new.self.items new (restart-firm xs new rem s)), (short, tt)))),
-    )
+    let short : length c.clear.new.self.items ≤ loose_below (with_items v new).items d.size = omega (arith, ap length c.clear.ensures.items) in
+    record {
+      sized = rw done (d.sized ∙ sym (same_blocks 514 xs new s.len));
+      calls = omega arith;
+      bytes = rw done (restart-bytes xs new rem s (λ k. omega (arith, c.type_inv.remains k)) d.bytes);
+      listed = rw done (lists-none c.clear.new.self.items new (restart-firm xs new rem s));
+      short = short;
+    }
 
 pub returns : goal.returns
 returns c =

@@ -8,7 +8,7 @@ returns-in-3-2 c =
     let r = c.args.row.now in
     c.mark-in-3-2.ensures ∙ sym (ap (λ (v : ℕ). revived v r) c.in-3.is ∙ revived-lost r c.if-flag-eq0.false)
 
-pub returns-in-default : goal.returns-in-default
-returns-in-default c =
+pub returns-in_default : goal.returns-in_default
+returns-in_default c =
     let v = c.args.byte in
-    c.keep-in-default.ensures ∙ sym (revived-fill v c.args.row.now (λ e. omega arith) (λ e. omega arith) (λ e. omega arith) (λ e. omega arith))
+    c.keep-in_default.ensures ∙ sym (revived-fill v c.args.row.now (λ e. omega arith) (λ e. omega arith) (λ e. omega arith) (λ e. omega arith))

@@ -44,22 +44,14 @@ invariant_of-self c =
     let count = loose-put xs b r (room 514 xs b in-range) full (written-loose (row 514 xs b) bytes wide c.requires.whole) d.size c.requires.in_range
     ∙ ap (λ (t : Bool). cond t (loose_below xs d.size) (loose_below xs d.size + 1)) was in
     let short = short-noted (length d.list.items) (length c.note-self.new.list.items) (loose_below xs d.size) (loose_below (put 514 xs b r) d.size)
-    (not (eqb c.index.result.now 0)) d.short c.note-self.ensures.short count in (
-      rw after (d.sized ∙ sym same),
-      (
-        omega (arith, d.calls),
-        (
-          rw after (splice-bytes xs (514 * b) r d.bytes (written-bytes (row 514 xs b) bytes (cut-bytes xs 514 (514 * b) d.bytes) (λ k. omega (arith, c.type_inv.bytes k)))),
-          (
-            rw after (lists-noted d.list.items c.note-self.new.list.items xs (put 514 xs b r) d.complete c.note-self.result (not (eqb c.index.result.now 0)) b c.note-self.ensures elsewhere.loose d.listed),
-            (
-              subst (λ (zs : List ℕ). length c.note-self.new.list.items ≤ loose_below zs d.size) (sym after) short,
-              tt,
-            ),
-          ),
-        ),
-      ),
-    )
+    (not (eqb c.index.result.now 0)) d.short c.note-self.ensures.short count in
+    record {
+      sized = rw after (d.sized ∙ sym same);
+      calls = omega (arith, d.calls);
+      bytes = rw after (splice-bytes xs (514 * b) r d.bytes (written-bytes (row 514 xs b) bytes (cut-bytes xs 514 (514 * b) d.bytes) (λ k. omega (arith, c.type_inv.bytes k))));
+      listed = rw after (lists-noted d.list.items c.note-self.new.list.items xs (put 514 xs b r) d.complete c.note-self.result (not (eqb c.index.result.now 0)) b c.note-self.ensures elsewhere.loose d.listed);
+      short = subst (λ (zs : List ℕ). length c.note-self.new.list.items ≤ loose_below zs d.size) (sym after) short;
+    }
 
 pub returns : goal.returns
 returns c =
