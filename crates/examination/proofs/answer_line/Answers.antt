@@ -1,5 +1,13 @@
-use Rattle.std.proofs.Common.{rules}
+use Rattle.std.proofs.Common.{◌≡◌, Ok, rules}
+use Rattle.script.specs.declared.Request.TheVariants.{Instruct}
+use Rattle.script.specs.Requests.{request_in}
 use Rattle.examination.proofs.answer_line.Goals as goal
 
 pub returns-in-Err-instruct : goal.returns-in-Err-instruct
-returns-in-Err-instruct g c = record { answer = search rules; after = search rules; kept = c.in-Err-instruct.ensures.kept }
+returns-in-Err-instruct g c =
+    let is : request_in c.args.line.now ≡ Ok (Instruct c.in-Ok-Instruct.x) = search rules in
+    record {
+      answer = search rules;
+      after = λ reached. rw is (c.in-Err-instruct.ensures.after reached).after;
+      kept = c.in-Err-instruct.ensures.kept;
+    }
