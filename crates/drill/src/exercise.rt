@@ -15,7 +15,7 @@ pub struct Ends {
 
 // Writes and syncs one block, and writes another and does not sync it.
 fn arm<D: Device>(device: &mut D, kept: u32, loose: u32, bytes: &[u8]) -> Result<(), Fault>
-    ensures { Armed (medium device.old) (medium device.new) kept loose bytes.now result }
+    ensures { Armed (D.Device.medium device.old) (D.Device.medium device.new) kept loose bytes.now result }
 {
     device.write(kept, bytes)?;
     device.sync()?;
@@ -41,8 +41,8 @@ pub fn drill<P: PoweredDevice>(
 
 // Reads a block, and tells its ends.
 pub fn look<D: Device>(device: &mut D, block: u32) -> Result<Ends, Fault>
-    ensures ends { result ≡ looked (medium device.old) block }
-    ensures same { SameBlocks (medium device.old) (medium device.new) }
+    ensures ends { result ≡ looked (D.Device.medium device.old) block }
+    ensures same { SameBlocks (D.Device.medium device.old) (D.Device.medium device.new) }
 {
     let mut buffer = [0u8; 256];
     device.read(block, &mut buffer)?;
