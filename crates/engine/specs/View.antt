@@ -5,6 +5,8 @@ use Rattle.book.specs.Holdings.{Holdings}
 use Rattle.rulebook.specs.Rules.{Standing}
 use Rattle.ledger.specs.View.{standing_of}
 use Rattle.device.specs.Medium.{Medium}
+use Rattle.device.specs.declared.Device as device
+use Rattle.book.specs.declared.Book as book
 use Rattle.engine.specs.declared.engine.Mode.{Mode}
 use Rattle.engine.specs.declared.engine.Engine.{Engine}
 
@@ -21,6 +23,6 @@ pub record View : Type 0 where
   -- entries that stand
   pub count : ℕ
 
-abbrev pub view : {D R C : Type 0} → (D → Medium) → (R → Holdings) → (C → Holdings) → Engine D R C → View
+abbrev pub view : {D R C : Type 0} {d : device.Ghosts D} {r : book.Ghosts R} {c : book.Ghosts C} → (D → Medium) → (R → Holdings) → (C → Holdings) → Engine D R C d r c → View
 view m r c e =
     record { mode = e.mode; medium = m e.device; standing = standing_of r c e.ledger; pairs = e.pairs; found = e.found; last = e.last; count = e.count }

@@ -24,9 +24,9 @@ pub struct Recovered {
 // Whether the mark of an entry is good: one that is unreadable is not.
 fn read_mark<D: Device>(device: &mut D, entry: u32) -> Result<bool, Fault>
     requires small { entry < 32767 }
-    requires within { 2 + 2 * entry < (medium device.old).size }
-    ensures answer { result ≡ mark_answer (medium device.old) entry }
-    ensures after { medium device.new ≡ drained 1 (medium device.old) }
+    requires within { 2 + 2 * entry < (D.Device.medium device.old).size }
+    ensures answer { result ≡ mark_answer (D.Device.medium device.old) entry }
+    ensures after { D.Device.medium device.new ≡ drained 1 (D.Device.medium device.old) }
 {
     let mut block = [0; BLOCK];
     match device.read(2 + 2 * entry, &mut block) {
@@ -41,9 +41,9 @@ fn read_mark<D: Device>(device: &mut D, entry: u32) -> Result<bool, Fault>
 // The instruction that the record of an entry says.
 fn read_entry<D: Device>(device: &mut D, entry: u32) -> Result<Instruction, Fault>
     requires small { entry < 32767 }
-    requires within { 2 + 2 * entry < (medium device.old).size }
-    ensures answer { result ≡ record_answer (medium device.old) entry }
-    ensures after { medium device.new ≡ drained 1 (medium device.old) }
+    requires within { 2 + 2 * entry < (D.Device.medium device.old).size }
+    ensures answer { result ≡ record_answer (D.Device.medium device.old) entry }
+    ensures after { D.Device.medium device.new ≡ drained 1 (D.Device.medium device.old) }
 {
     let mut block = [0; BLOCK];
     if let Err(fault) = device.read(1 + 2 * entry, &mut block) {
@@ -111,9 +111,9 @@ fn replay<D: Device, R: Book, C: Book>(
 
 // The number of pairs of the journal on a device, where its header is one for these kinds of books.
 fn read_header<D: Device>(device: &mut D, register: u8, cash: u8) -> Result<u32, Fault>
-    ensures answer { result ≡ header_answer register cash (medium device.old) }
-    ensures after { medium device.new ≡ after_header (medium device.old) }
-    ensures fits { IfOk result (λ pairs. Fits pairs (medium device.new)) }
+    ensures answer { result ≡ header_answer register cash (D.Device.medium device.old) }
+    ensures after { D.Device.medium device.new ≡ after_header (D.Device.medium device.old) }
+    ensures fits { IfOk result (λ pairs. Fits pairs (D.Device.medium device.new)) }
 {
     let mut block = [0; BLOCK];
     device.read(0, &mut block)?;
