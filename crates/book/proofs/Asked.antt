@@ -1,10 +1,9 @@
 -- What a question within a book's range is answered. Assumes nothing.
-use Rattle.std.proofs.Common.{◌≡◌, ℕ, ◌+◌, ◌<◌, ◌≤◌, cond, Ok, Err, Result, sym, ap, ◌∙◌, arith}
+use Rattle.std.proofs.Common.{◌≡◌, ℕ, ◌+◌, ◌<◌, ◌≤◌, Ok, ap, arith}
 use Rattle.std.proofs.lemmas.Bool.{lt-leb}
-use Rattle.answers.specs.declared.Refusal.{Refusal}
 use Rattle.book.specs.declared.Holding.{Holding}
 use Rattle.book.specs.Sums.{up_to}
-use Rattle.book.specs.Holdings.{Holdings, BookKind, total, limit}
+use Rattle.book.specs.Holdings.{Holdings, BookKind, total}
 use Rattle.book.specs.Rulings.{asked, holding_at}
 use Rattle.book.proofs.Sums.{up_to-next-le}
 

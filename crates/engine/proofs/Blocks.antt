@@ -1,5 +1,5 @@
 -- What a read of a block of the device tells.
-use Rattle.std.proofs.Common.{◌≡◌, ℕ, ◌-◌, ◌<◌, false, eqb, ◌⊎◌, List, length, Some, None, Ok, Err, Option, sym, refl, ap, ◌∙◌, inl, inr, arith}
+use Rattle.std.proofs.Common.{◌≡◌, ℕ, ◌-◌, ◌<◌, false, eqb, ◌⊎◌, List, length, Some, None, Ok, Err, Option, refl, ap, ◌∙◌, inl, inr, arith}
 use mathlib.Core.Path.{fun_ext}
 use Rattle.std.proofs.lemmas.Bool.{cond-true, cond-false, lt-leb, eq-eqb, eqb-true, cases_Bool}
 use Rattle.answers.specs.declared.Refusal.TheVariants.{NoCalls, Unreadable}

@@ -1,12 +1,11 @@
 -- A header that the device refuses to read.
-use Rattle.std.proofs.Common.{◌≡◌, ℕ, ◌-◌, ◌<◌, eqb, leb, ◌⊎◌, List, length, None, Ok, Err, sym, refl, ap, ◌∙◌, inl, inr, ⊎_elim, arith}
-use Rattle.std.proofs.lemmas.Bool.{cond-true, cond-false, lt-leb, eq-eqb, cases_Bool, leb-false}
-use Rattle.answers.specs.declared.Refusal.TheVariants.{NoBlock, NoCalls, Unreadable}
+use Rattle.std.proofs.Common.{◌≡◌, ℕ, ◌-◌, ◌<◌, eqb, leb, List, length, Err, sym, ap, ◌∙◌, inl, inr, ⊎_elim, arith}
+use Rattle.std.proofs.lemmas.Bool.{cond-true, cond-false, eq-eqb, cases_Bool, leb-false}
+use Rattle.answers.specs.declared.Refusal.TheVariants.{NoBlock, NoCalls}
 use Rattle.answers.specs.declared.Fault.{Fault}
 use Rattle.answers.specs.Faults.{at_block}
 use Rattle.device.specs.Medium.{Medium}
 use Rattle.device.specs.Calls.{admitted, and_then, found, if_ok, Read}
-use Rattle.engine.specs.Recovery.{drained}
 use Rattle.engine.specs.Opening.{header_answer, header_held, after_header}
 use Rattle.engine.proofs.Blocks.{same-but-calls, read-refused, read-spent}
 

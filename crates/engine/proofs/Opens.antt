@@ -1,10 +1,9 @@
 -- The engine that an opening gives.
-use Rattle.std.proofs.Common.{◌≡◌, ℕ, [], None, Ok, Err, Result, sym, refl, ap, ◌∙◌, subst}
+use Rattle.std.proofs.Common.{◌≡◌, ℕ, [], None, Result, sym, ap, ◌∙◌, subst}
 use Rattle.answers.specs.declared.Fault.{Fault}
 use Rattle.rulebook.specs.Terms.{securities, cash}
 use Rattle.rulebook.specs.Rules.{Rulebook, Standing, empty, start, Reached}
 use Rattle.device.specs.Medium.{Medium}
-use Rattle.engine.specs.declared.engine.Mode.{Mode}
 use Rattle.engine.specs.declared.engine.Mode.TheVariants.{Refused}
 use Rattle.engine.specs.declared.opening.Recovered.{Recovered}
 use Rattle.engine.specs.View.{View}

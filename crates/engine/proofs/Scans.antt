@@ -1,10 +1,10 @@
 -- The recovery, turn by turn.
-use Rattle.std.proofs.Common.{◌≡◌, ℕ, zero, suc, ◌+◌, ◌-◌, ◌*◌, ◌<◌, ◌≤◌, Some, None, Ok, Err, Option, Result, sym, refl, ap, ◌∙◌, add-one, arith}
+use Rattle.std.proofs.Common.{◌≡◌, ℕ, ◌+◌, ◌-◌, ◌<◌, ◌≤◌, Some, None, Ok, Option, Result, sym, refl, ap, ◌∙◌, add-one, arith}
 use Rattle.answers.specs.declared.Fault.{Fault}
 use Rattle.instruction.specs.declared.Instruction.{Instruction}
 use Rattle.rulebook.specs.Rules.{Rulebook, Standing, effect, Reached}
 use Rattle.device.specs.Medium.{Medium}
-use Rattle.engine.specs.Recovery.{with_calls, drained, entry_answer, turn, Scan, ended, scan, spent_by, leads_to}
+use Rattle.engine.specs.Recovery.{with_calls, drained, entry_answer, turn, ended, scan}
 
 pub scan-none : (h : Rulebook) (m : Medium) (k : ℕ) (s : Standing) (last : Option Instruction) → scan h 0 m k s last ≡ ended m k s last
 unfolding scan

@@ -1,18 +1,16 @@
 -- What an opening gives. Assumes nothing.
-use Rattle.std.specs.Prelude.{◌≡◌, ℕ, ◌+◌, ◌*◌, ◌≤◌, Bool, cond, ◌&&◌, List, [], ◌∷◌, ◌++◌, length, Some, None, Ok, Err, Option, Result, ◌==◌, nat_le, nat_lt}
+use Rattle.std.specs.Prelude.{ℕ, ◌+◌, ◌*◌, ◌≤◌, cond, ◌&&◌, List, [], ◌∷◌, Some, None, Ok, Err, Option, Result, ◌==◌, nat_le, nat_lt}
 use Rattle.answers.specs.declared.Refusal.{Refusal}
 use Rattle.answers.specs.declared.Refusal.TheVariants.{NoBlock, NoCalls, Unreadable, OtherKinds, TooFewBlocks}
 use Rattle.answers.specs.declared.Fault.{Fault}
 use Rattle.answers.specs.Faults.{plain, at_block}
 use Rattle.instruction.specs.declared.Instruction.{Instruction}
 use Rattle.rulebook.specs.Terms.{securities, cash}
-use Rattle.rulebook.specs.Rules.{Rulebook, Standing, empty, Runs}
+use Rattle.rulebook.specs.Rules.{Rulebook, Standing, empty}
 use Rattle.device.specs.Medium.{Medium}
 use Rattle.journal.specs.declared.header.Header.{Header}
-use Rattle.journal.specs.Journal.{Found}
-use Rattle.journal.specs.Blocks.{header_in, header_bytes, layout}
-use Rattle.engine.specs.declared.engine.Mode.{Mode}
-use Rattle.engine.specs.declared.engine.Mode.TheVariants.{Open, Down, Refused}
+use Rattle.journal.specs.Blocks.{header_in}
+use Rattle.engine.specs.declared.engine.Mode.TheVariants.{Open, Refused}
 use Rattle.engine.specs.declared.opening.Recovered.{Recovered}
 use Rattle.engine.specs.View.{View}
 use Rattle.engine.specs.Recovery.{with_calls, drained, Scan, scan}

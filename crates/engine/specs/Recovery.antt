@@ -1,16 +1,14 @@
 -- What an opening reads, entry by entry. Assumes nothing.
-use Rattle.std.specs.Prelude.{◌≡◌, ℕ, zero, suc, ◌+◌, ◌-◌, ◌*◌, Bool, true, false, cond, not, ◌||◌, List, Some, None, Ok, Err, Option, Result, ◌==◌}
+use Rattle.std.specs.Prelude.{ℕ, zero, suc, ◌+◌, ◌-◌, Bool, true, false, cond, List, Some, None, Ok, Err, Option, Result, ◌==◌}
 use Rattle.answers.specs.declared.Refusal.{Refusal}
-use Rattle.answers.specs.declared.Refusal.TheVariants.{NoBlock, NoCalls, Unreadable, NotAHeader, OtherKinds, TooFewBlocks}
+use Rattle.answers.specs.declared.Refusal.TheVariants.{NoCalls, Unreadable}
 use Rattle.answers.specs.declared.Fault.{Fault}
 use Rattle.answers.specs.Faults.{plain, at_block, in_entry, of_record}
 use Rattle.instruction.specs.declared.Instruction.{Instruction}
-use Rattle.rulebook.specs.Terms.{securities, cash}
-use Rattle.rulebook.specs.Rules.{Rulebook, Standing, empty, verdict, effect}
+use Rattle.rulebook.specs.Rules.{Rulebook, Standing, verdict, effect}
 use Rattle.device.specs.Medium.{Medium}
-use Rattle.journal.specs.declared.header.Header.{Header}
 use Rattle.journal.specs.Journal.{record_at, mark_at}
-use Rattle.journal.specs.Blocks.{header_in, is_mark, record_in}
+use Rattle.journal.specs.Blocks.{is_mark, record_in}
 use Rattle.engine.specs.declared.opening.Recovered.{Recovered}
 
 -- a device with another number of calls left

@@ -1,10 +1,8 @@
 -- A script on its way. Assumes nothing.
 use Rattle.std.proofs.Common.{◌≡◌, ℕ, zero, suc, ◌<◌, ◌≤◌, List, [], ◌∷◌, ◌++◌, length, take, drop, Ok, Err, Result, sym, refl, ap, ◌∙◌, subst, append_assoc, arith}
 use Rattle.answers.specs.declared.Refusal.{Refusal}
-use Rattle.instruction.specs.declared.Instruction.{Instruction}
-use Rattle.book.specs.Rulings.{on_ok}
 use Rattle.rulebook.specs.Table.{before}
-use Rattle.rulebook.specs.Rules.{Rulebook, Standing, empty, answer, at, effect, start, more, Reached}
+use Rattle.rulebook.specs.Rules.{Rulebook, Standing, empty, start, Reached}
 use Rattle.rulebook.specs.Law.{Balanced}
 use Rattle.rulebook.specs.Words.{standing_after}
 use Rattle.std.proofs.lemmas.List.{append-nil, take_all}

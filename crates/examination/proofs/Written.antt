@@ -1,5 +1,5 @@
 -- The key as text. Assumes nothing.
-use Rattle.std.proofs.Common.{◌≡◌, ℕ, ◌+◌, ◌<◌, ◌≤◌, List, ◌∷◌, ◌++◌, length, get_or, drop, sym, ap, ◌∙◌, append_assoc}
+use Rattle.std.proofs.Common.{◌≡◌, ℕ, ◌+◌, ◌<◌, ◌≤◌, List, ◌++◌, length, get_or, drop, sym, ap, ◌∙◌, append_assoc}
 use Rattle.examination.specs.declared.Answer.{Answer}
 use Rattle.examination.specs.declared.Answer.TheVariants.{Done}
 use Rattle.examination.specs.Texts.{line_text, key_text}

@@ -1,11 +1,11 @@
 -- The key of a script, and the law that it keeps. Assumes nothing.
-use Rattle.std.specs.Prelude.{◌≡◌, ℕ, ◌+◌, ◌<◌, ◌≤◌, List, [], ◌∷◌, ◌++◌, length, take, Ok, Err, Result, slice_index_or}
+use Rattle.std.specs.Prelude.{◌≡◌, ℕ, ◌<◌, ◌≤◌, List, [], ◌∷◌, ◌++◌, length, take, Ok, Err, Result, slice_index_or}
 use Rattle.answers.specs.declared.Refusal.{Refusal}
 use Rattle.answers.specs.declared.Refusal.TheVariants.{InputTooLong}
 use Rattle.instruction.specs.declared.Instruction.{Instruction}
 use Rattle.book.specs.declared.Holding.{Holding}
 use Rattle.rulebook.specs.Terms.{Side, securities, cash}
-use Rattle.rulebook.specs.Rules.{Rulebook, Standing, empty, Runs, Reached}
+use Rattle.rulebook.specs.Rules.{Rulebook, Standing, empty, Runs}
 use Rattle.rulebook.specs.Law.{Balanced}
 use Rattle.rulebook.specs.Words.{standing_after, LastWords}
 use Rattle.script.specs.declared.Position.{Position}

@@ -1,13 +1,13 @@
 -- Blocks are read back as they were written, and no mark is blank. Assumes nothing.
 use Rattle.std.proofs.Common.{◌≡◌, ℕ, zero, suc, ◌+◌, ◌-◌, ◌%◌, ◌^◌, ◌<◌, ◌≤◌, Bool, true, false, cond, ◌&&◌, eqb, ltb, List, [], ◌∷◌, ◌++◌, length, get_or, take, drop, replicate, Ok, Err, Result, sym, refl, ap, ◌∙◌, subst, inl, inr, arith, lit<, length-drop, length-take, drop-cons}
-use Rattle.std.proofs.lemmas.Bool.{eq-eqb, eqb-true, lt-ltb, ltb-true, and_parts, cases_lt, true≢false}
+use Rattle.std.proofs.lemmas.Bool.{eq-eqb, eqb-true, lt-ltb, ltb-true, and_parts, cases_lt}
 use Rattle.std.proofs.lemmas.List.{take_all, take-append-drop, drop-drop, get_or-take, get_or-drop, get_or_past}
 use Rattle.little_endian.specs.Little.{le, bytes, Bytes, part}
 use Rattle.little_endian.proofs.Widths.{le_bytes, bytes_le}
 use Rattle.answers.specs.declared.Refusal.{Refusal}
 use Rattle.answers.specs.declared.Refusal.TheVariants.{NotAHeader, Malformed}
 use Rattle.instruction.specs.declared.Instruction.{Instruction}
-use Rattle.instruction.specs.Layout.{bytes_of, instruction_in, unused_zero, field, Reads, Fit}
+use Rattle.instruction.specs.Layout.{instruction_in, unused_zero, field, Reads, Fit}
 use Rattle.instruction.proofs.Trips.{there, reads}
 use Rattle.journal.specs.declared.header.Header.{Header}
 use Rattle.journal.specs.Blocks.{zeros, header_bytes, header_in, is_header, mark_bytes, is_mark, record_bytes, record_in, is_record, all_zero}

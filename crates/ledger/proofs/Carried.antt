@@ -1,5 +1,5 @@
 -- The code's carrying out is the rules' effect. Assumes nothing.
-use Rattle.std.proofs.Common.{◌≡◌, ℕ, ◌<◌, Bool, true, false, cond, eqb, leb, List, length, get_or, set, Some, None, Ok, Err, Result, sym, refl, ap, ◌∙◌, subst, ⊎_elim, arith}
+use Rattle.std.proofs.Common.{◌≡◌, ℕ, ◌<◌, Bool, true, false, cond, eqb, leb, List, length, get_or, set, Some, None, Ok, Result, sym, refl, ap, ◌∙◌, subst, ⊎_elim, arith}
 use Rattle.std.proofs.lemmas.List.{get_or-set_same, get_or-set_other}
 use Rattle.std.proofs.lemmas.Bool.{eqb-true, eq-eqb, ne_eqb, cases_eq, cases_Bool, cond-true, cond-false, lt-leb}
 use Rattle.answers.specs.declared.Refusal.{Refusal}
@@ -7,14 +7,14 @@ use Rattle.instruction.specs.declared.Kind.TheVariants.{Issue, PayIn, Enter, Ear
 use Rattle.instruction.specs.declared.Instruction.{Instruction}
 use Rattle.instruction.specs.Kinds.{kind_at}
 use Rattle.book.specs.Holdings.{Holdings}
-use Rattle.book.specs.Rulings.{first, on_ok, outcome}
+use Rattle.book.specs.Rulings.{first, outcome}
 use Rattle.rulebook.specs.declared.State.{State}
 use Rattle.rulebook.specs.declared.State.TheVariants.{Entered, Earmarked, Funded, Settled, Freed}
 use Rattle.rulebook.specs.declared.Terms.{Terms}
 use Rattle.rulebook.specs.declared.Trade.{Trade}
 use Rattle.rulebook.specs.Table.{Act, after, starts, next}
 use Rattle.rulebook.specs.Terms.{terms_of, securities, cash}
-use Rattle.rulebook.specs.Rules.{Rulebook, Standing, all_checks, answer_as, answer, at, turned, is_enter, terms_after, deed, effect, step, Reached}
+use Rattle.rulebook.specs.Rules.{Rulebook, Standing, all_checks, answer_as, answer, at, turned, is_enter, terms_after, deed, effect, Reached}
 use Rattle.ledger.specs.View.{standing}
 use Rattle.ledger.specs.Rows.{blank, state_at, terms_at, put, rows_after}
 use Rattle.rulebook.proofs.Checks.{right}

@@ -3,7 +3,7 @@ use Rattle.std.proofs.Common.{◌≡◌, [], ◌∷◌, ◌++◌, Ok, Err, Resul
 use Rattle.answers.specs.declared.Refusal.{Refusal}
 use Rattle.instruction.specs.declared.Instruction.{Instruction}
 use Rattle.book.specs.Rulings.{on_ok}
-use Rattle.rulebook.specs.Table.{after, Steps}
+use Rattle.rulebook.specs.Table.{Steps}
 use Rattle.rulebook.specs.Rules.{Rulebook, Standing, answer, effect, step, more, Reached}
 use Rattle.rulebook.specs.Law.{Given}
 use Rattle.rulebook.proofs.Carries.{carried-out}

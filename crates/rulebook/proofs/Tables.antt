@@ -1,5 +1,5 @@
 -- The table of states agrees with its words. Assumes nothing.
-use Rattle.std.proofs.Common.{◌≡◌, ℕ, Some, None, Option, sym, refl, arith}
+use Rattle.std.proofs.Common.{◌≡◌, ℕ, Some, None, Option, refl, arith}
 use Rattle.instruction.specs.declared.Kind.{Kind}
 use Rattle.instruction.specs.declared.Kind.TheVariants.{Issue, PayIn, Enter, Earmark, Fund, Settle, Free}
 use Rattle.rulebook.specs.declared.State.{State}

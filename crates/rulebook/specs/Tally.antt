@@ -1,5 +1,5 @@
 -- What a list of instructions says of states, terms and sums, with no replay of the books. Assumes nothing.
-use Rattle.std.specs.Prelude.{ℕ, ◌+◌, Bool, true, false, cond, ◌&&◌, List, fold, sum_by, ◌==◌}
+use Rattle.std.specs.Prelude.{ℕ, List, fold, sum_by, ◌==◌}
 use Rattle.instruction.specs.declared.Instruction.{Instruction}
 use Rattle.instruction.specs.Kinds.{kind_at}
 use Rattle.book.specs.Sums.{up_to, only, here}

@@ -1,8 +1,7 @@
 -- A line is read as the one well-formed request that it is the text of. Assumes nothing.
-use Rattle.std.proofs.Common.{◌≡◌, ℕ, ◌^◌, ◌<◌, ◌≤◌, Bool, true, false, cond, eqb, List, [], ◌∷◌, get_or, Some, None, Option, Result, sym, refl, ap, ◌∙◌, subst, ⊎_elim, arith, lit<, rules}
+use Rattle.std.proofs.Common.{◌≡◌, ℕ, ◌^◌, ◌<◌, ◌≤◌, Bool, true, false, cond, eqb, List, [], ◌∷◌, get_or, Some, None, Option, sym, refl, ap, ◌∙◌, subst, arith, lit<, rules}
 use Rattle.std.specs.List.{AllByRecursion as All}
-use Rattle.std.proofs.lemmas.Bool.{eqb-true, cases_Bool}
-use Rattle.answers.specs.declared.Refusal.{Refusal}
+use Rattle.std.proofs.lemmas.Bool.{eqb-true}
 use Rattle.instruction.specs.declared.Kind.{Kind}
 use Rattle.instruction.specs.declared.Kind.TheVariants.{Issue, PayIn, Enter, Earmark, Fund, Settle, Free}
 use Rattle.instruction.specs.declared.Instruction.{Instruction}
@@ -12,7 +11,7 @@ use Rattle.script.specs.declared.Position.{Position}
 use Rattle.script.specs.declared.Request.{Request}
 use Rattle.script.specs.declared.Request.TheVariants.{Instruct, Register, Cash}
 use Rattle.script.specs.Words.{is_letter, Word, letter, digits, space, other, end, first_word, after}
-use Rattle.script.specs.Requests.{then, fields_of, widths, on_trade, filled, instruction_of, position_of, letter_of, kind_for, request_for, request_after, request_of, listed, request_in, used, unused, fields_text, text_as, position_text, written, OfAKind, WellFormed, ReadsLine}
+use Rattle.script.specs.Requests.{then, fields_of, widths, on_trade, filled, instruction_of, position_of, letter_of, kind_for, request_for, request_after, request_of, listed, request_in, used, unused, fields_text, text_as, position_text, written, WellFormed, ReadsLine}
 use Rattle.script.proofs.Fields.{Seen, seen, first-letter, Within, fields-sound, fields-complete, within-at}
 
 none-some : {X : Type 0} (x : X) → None ≡ Some x → ⊥

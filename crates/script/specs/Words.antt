@@ -1,5 +1,5 @@
 -- The tokens of a line. Assumes nothing.
-use Rattle.std.specs.Prelude.{ℕ, Bool, cond, ◌&&◌, List, [], ◌∷◌, length, take, drop, ◌==◌, nat_le, slice_index}
+use Rattle.std.specs.Prelude.{ℕ, Bool, cond, ◌&&◌, List, length, take, drop, ◌==◌, nat_le, slice_index}
 use Rattle.std.specs.List.{prefix_len}
 use Rattle.script.specs.declared.Token.{Token}
 use Rattle.script.specs.declared.Token.TheVariants.{Letter, Digits, Space, Other, End}

@@ -1,4 +1,4 @@
-use Rattle.std.proofs.Common.{◌≡◌, [], ◌∷◌, ◌++◌, vec_items, sym, ap, ◌∙◌, subst, arith}
+use Rattle.std.proofs.Common.{[], ◌∷◌, ◌++◌, vec_items, sym, ap, ◌∙◌, subst, arith}
 use Rattle.script.specs.Feeds.{lines_of}
 use Rattle.ledger.specs.View.{rulebook, standing_of}
 use Rattle.examination.proofs.Course.{Going, going_start, going_more, going_end, going-stop}

@@ -1,9 +1,8 @@
-use Rattle.std.proofs.Common.{◌≡◌, ◌+◌, ◌-◌, ◌*◌, ◌^◌, ◌<◌, ◌≤◌, true, false, length, get_or, drop, Some, None, sym, ap, ◌∙◌, ⊎_elim, arith, rules}
+use Rattle.std.proofs.Common.{◌≡◌, ◌+◌, ◌-◌, ◌*◌, ◌<◌, length, get_or, drop, Some, None, sym, ap, ◌∙◌, arith, rules}
 use Rattle.std.proofs.lemmas.Bool.{eqb-true}
 use Rattle.std.proofs.lemmas.List.{at_drop_more, at_drop_all}
-use Rattle.script.specs.Words.{is_digit}
 use Rattle.script.specs.Numerals.{numeral_from, numeral}
-use Rattle.script.proofs.Num.{turn, stray, over, start, zero-first, empty, digit-bounds, reads-number}
+use Rattle.script.proofs.Num.{turn, stray, over, zero-first, empty, digit-bounds, reads-number}
 use Rattle.script.proofs.number.Goals as goal
 use Rattle.script.proofs.number.Goals.{then-n-most-via-then-n-most, then-n-most-via-else-n-most+then-digit-most}
 

@@ -1,4 +1,4 @@
-use Rattle.std.proofs.Common.{◌≡◌, sym, rules}
+use Rattle.std.proofs.Common.{sym, rules}
 use Rattle.std.proofs.lemmas.List.{take_rest}
 use Rattle.script.proofs.Feeding.{drop-none}
 use Rattle.script.proofs.past_first.Goals as goal

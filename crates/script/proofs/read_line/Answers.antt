@@ -1,4 +1,4 @@
-use Rattle.std.proofs.Common.{◌≡◌, sym, ap, ◌∙◌, subst, rules}
+use Rattle.std.proofs.Common.{◌≡◌, sym, subst, rules}
 use Rattle.script.specs.Requests.{request_in, ReadsLine}
 use Rattle.script.proofs.Reading.{reads-line}
 use Rattle.script.proofs.read_line.Goals as goal

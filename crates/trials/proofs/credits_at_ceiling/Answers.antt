@@ -1,8 +1,7 @@
-use Rattle.std.proofs.Common.{◌≡◌, ℕ, Ok, sym, ap, ◌∙◌, lit<}
-use Rattle.book.specs.Holdings.{Holdings, nothing, crediting, apply}
+use Rattle.std.proofs.Common.{ap, ◌∙◌, lit<}
+use Rattle.book.specs.Holdings.{Holdings, crediting}
 use Rattle.book.specs.Rulings.{ruling, outcome}
 use Rattle.balances.specs.Rows.{balances_kind}
-use Rattle.balances.specs.Meaning.{meaning}
 use Rattle.trials.specs.Marked.{number}
 use Rattle.trials.proofs.Rows.{credit-to-ceiling, credit-past-ceiling, filled-once}
 use Rattle.trials.proofs.credits_at_ceiling.Goals as goal

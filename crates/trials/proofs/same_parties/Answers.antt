@@ -1,5 +1,4 @@
 use Rattle.std.proofs.Common.{◌≡◌, Err, ap, ◌∙◌}
-use Rattle.answers.specs.declared.Fault.{Fault}
 use Rattle.answers.specs.declared.Refusal.TheVariants.{SameParties}
 use Rattle.answers.specs.Faults.{on_trade}
 use Rattle.answers.specs.Numbers.{number_of}

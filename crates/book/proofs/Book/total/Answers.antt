@@ -1,4 +1,4 @@
-use Rattle.std.proofs.Common.{◌≡◌, ℕ, ◌+◌, ◌<◌, ◌≤◌, sym, ap, arith, rules}
+use Rattle.std.proofs.Common.{◌≡◌, ◌+◌, ◌≤◌, sym, ap, arith, rules}
 use Rattle.book.specs.Rulings.{holding_at}
 use Rattle.book.proofs.Sums.{up_to-none, up_to-more}
 use Rattle.book.proofs.Asked.{holding-is, amount-fits}

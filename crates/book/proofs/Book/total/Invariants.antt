@@ -1,4 +1,4 @@
-use Rattle.std.proofs.Common.{◌≡◌, ℕ, ◌+◌}
+use Rattle.std.proofs.Common.{◌≡◌, ◌+◌}
 use Rattle.book.specs.Sums.{up_to}
 use Rattle.book.proofs.Book.total.Given as goal
 

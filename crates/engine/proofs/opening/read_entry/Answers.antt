@@ -1,4 +1,4 @@
-use Rattle.std.proofs.Common.{Err, ap, ◌∙◌, arith, rules}
+use Rattle.std.proofs.Common.{Err, ap, ◌∙◌, arith}
 use Rattle.engine.proofs.Blocks.{read-refused, read-spent}
 use Rattle.engine.proofs.Entries.{record-refused}
 use Rattle.engine.proofs.opening.read_entry.Goals as goal

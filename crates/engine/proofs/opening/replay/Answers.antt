@@ -1,6 +1,4 @@
-use Rattle.std.proofs.Common.{◌≡◌, Some, None, Ok, Err, sym, refl, ap, ◌∙◌, arith, rules}
-use Rattle.device.specs.Medium.{Medium}
-use Rattle.ledger.specs.View.{rulebook, standing_of}
+use Rattle.std.proofs.Common.{◌≡◌, Some, None, Ok, Err, sym, ap, ◌∙◌, arith, rules}
 use Rattle.engine.specs.Recovery.{Scan, with_calls}
 use Rattle.engine.proofs.Scans.{all_read, turned, device-after, next-turn}
 use Rattle.engine.proofs.opening.replay.Goals as goal

@@ -1,4 +1,4 @@
-use Rattle.std.proofs.Common.{◌≡◌, ◌∷◌, ◌++◌, get_or, replicate, ◌∙◌}
+use Rattle.std.proofs.Common.{◌∷◌, ◌++◌, get_or, replicate, ◌∙◌}
 use Rattle.journal.proofs.entry.record_block.Goals as goal
 
 pub returns : goal.returns

@@ -1,4 +1,4 @@
-use Rattle.std.proofs.Common.{◌≡◌, cond, Some, None, Ok, Err, sym, refl, ap, ◌∙◌}
+use Rattle.std.proofs.Common.{cond, Some, None, Ok, Err, sym, refl, ap, ◌∙◌}
 use Rattle.answers.specs.Faults.{plain, on_trade}
 use Rattle.answers.specs.declared.Refusal.TheVariants.{UnknownKind}
 use Rattle.rulebook.specs.Rules.{names_trade, with_trade}

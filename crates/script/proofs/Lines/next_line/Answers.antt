@@ -2,7 +2,7 @@ use Rattle.std.proofs.Common.{◌≡◌, ◌<◌, [], ◌∷◌, length, drop, s
 use Rattle.std.specs.List.{prefix_len}
 use Rattle.std.proofs.lemmas.Bool.{eqb-true}
 use Rattle.std.proofs.lemmas.List.{nil_from_length}
-use Rattle.script.specs.Feeds.{in_line, first_line, after_line, lines_of}
+use Rattle.script.specs.Feeds.{in_line, after_line, lines_of}
 use Rattle.script.proofs.Feeding.{lines_of-none, lines_of-more, splits}
 use Rattle.script.proofs.Lines.next_line.Goals as goal
 

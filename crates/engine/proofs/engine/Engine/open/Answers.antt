@@ -1,5 +1,5 @@
-use Rattle.std.proofs.Common.{◌≡◌, Ok, Err, sym, refl, ap, ◌∙◌, rules}
-use Rattle.ledger.specs.View.{rulebook, standing_of}
+use Rattle.std.proofs.Common.{◌∙◌}
+use Rattle.ledger.specs.View.{rulebook}
 use Rattle.engine.proofs.Opens.{headed}
 use Rattle.engine.proofs.engine.Engine.open.Goals as goal
 

@@ -1,6 +1,6 @@
-use Rattle.std.proofs.Common.{◌≡◌, None, Ok, Err, sym, refl, ap, ◌∙◌, rules}
-use Rattle.ledger.specs.View.{rulebook, standing_of}
-use Rattle.engine.specs.Recovery.{Scan, with_calls, scan}
+use Rattle.std.proofs.Common.{None, ap, ◌∙◌}
+use Rattle.ledger.specs.View.{rulebook}
+use Rattle.engine.specs.Recovery.{scan}
 use Rattle.engine.specs.Opening.{scanned_on}
 use Rattle.engine.proofs.Opens.{reached-empty, scanned}
 use Rattle.engine.proofs.engine.Engine.recovered.Goals as goal
