@@ -1,6 +1,6 @@
 -- Numbers as bytes, the lowest byte first, for every width at once. Assumes nothing.
 use Rattle.std.specs.Prelude.{◌≡◌, ℕ, zero, suc, ◌+◌, ◌*◌, ◌/◌, ◌%◌, ◌^◌, ◌<◌, List, [], ◌∷◌, length, slice_index}
-use Rattle.std.specs.List.{AllByRecursion as All}
+use Rattle.std.specs.List.{AllByRecursion}
 
 -- the number that a string of bytes means
 abbrev pub le : List ℕ → ℕ
@@ -18,7 +18,7 @@ part at zero bs = []
 part at (suc w) bs = slice_index bs at ∷ part (suc at) w bs
 
 abbrev pub Bytes : List ℕ → Type 0
-Bytes bs = All (λ b. b < 256) bs
+Bytes bs = AllByRecursion (λ b. b < 256) bs
 
 -- what is written is read back, and what is read is written back
 pub record EveryWidth : Type 0 where

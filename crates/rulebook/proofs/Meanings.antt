@@ -1,6 +1,6 @@
 -- The words of the tally and of the table. Assumes nothing.
 use Rattle.std.proofs.Common.{◌≡◌, ℕ, true, false, eqb, List, [], ◌∷◌, ◌++◌, Some, None, Ok, fold, sym, refl, ap, ◌∙◌, subst, ⊎_elim}
-use Rattle.std.specs.List.{AllByRecursion as All}
+use Rattle.std.specs.List.{AllByRecursion}
 use Rattle.std.proofs.lemmas.List.Sums.{fold_push}
 use Rattle.std.proofs.lemmas.Bool.{eqb-true, eq-eqb, ne_eqb, cases_Bool, cond-true, cond-false}
 use Rattle.instruction.specs.declared.Kind.{Kind}
@@ -45,11 +45,11 @@ touched (Some Settle) f u t h e = at_same f u t Settled e
 touched (Some Free) f u t h e = at_same f u t Freed e
 touched None f u t h e = absurd h
 
-stay : (zs : List Instruction) (f : ℕ → State) (t : ℕ) → All (λ z. On t z → ⊥) zs → fold read_state f zs t ≡ f t
+stay : (zs : List Instruction) (f : ℕ → State) (t : ℕ) → AllByRecursion (λ z. On t z → ⊥) zs → fold read_state f zs t ≡ f t
 stay [] f t h = refl
 stay (z ∷ zs) f t h = stay zs (read_state f z) t h.1 ∙ untouched (kind_at z.kind) f z.trade t h.0
 
-last : (xs zs : List Instruction) (f : ℕ → State) (x : Instruction) (t : ℕ) → On t x → All (λ z. On t z → ⊥) zs → After (kind_at x.kind) (fold read_state f (xs ++ (x ∷ zs)) t)
+last : (xs zs : List Instruction) (f : ℕ → State) (x : Instruction) (t : ℕ) → On t x → AllByRecursion (λ z. On t z → ⊥) zs → After (kind_at x.kind) (fold read_state f (xs ++ (x ∷ zs)) t)
 last [] zs f x t o h = rw (stay zs (read_state f x) t h) (touched (kind_at x.kind) f x.trade t o.0 o.1)
 last (y ∷ xs) zs f x t o h = last xs zs (read_state f y) x t o h
 
@@ -61,11 +61,11 @@ terms-kept f x t h =
 terms-set : (f : ℕ → Terms) (x : Instruction) (t : ℕ) → EnterOn t x → read_terms f x t ≡ terms_of x
 terms-set f x t o = rw (enter-code x.kind, eq-eqb x.kind (code_of Enter) o.0) (at_same f x.trade t (terms_of x) o.1)
 
-terms-stay : (zs : List Instruction) (f : ℕ → Terms) (t : ℕ) → All (λ z. EnterOn t z → ⊥) zs → fold read_terms f zs t ≡ f t
+terms-stay : (zs : List Instruction) (f : ℕ → Terms) (t : ℕ) → AllByRecursion (λ z. EnterOn t z → ⊥) zs → fold read_terms f zs t ≡ f t
 terms-stay [] f t h = refl
 terms-stay (z ∷ zs) f t h = terms-stay zs (read_terms f z) t h.1 ∙ terms-kept f z t h.0
 
-last-terms : (xs zs : List Instruction) (f : ℕ → Terms) (x : Instruction) (t : ℕ) → EnterOn t x → All (λ z. EnterOn t z → ⊥) zs → fold read_terms f (xs ++ (x ∷ zs)) t ≡ terms_of x
+last-terms : (xs zs : List Instruction) (f : ℕ → Terms) (x : Instruction) (t : ℕ) → EnterOn t x → AllByRecursion (λ z. EnterOn t z → ⊥) zs → fold read_terms f (xs ++ (x ∷ zs)) t ≡ terms_of x
 last-terms [] zs f x t o h = terms-stay zs (read_terms f x) t h ∙ terms-set f x t o
 last-terms (y ∷ xs) zs f x t o h = last-terms xs zs (read_terms f y) x t o h
 

@@ -1,6 +1,6 @@
 -- The words of the tally, said without a reading from left to right. Assumes nothing.
 use Rattle.std.specs.Prelude.{◌≡◌, ℕ, List, ◌∷◌, ◌++◌, Some, None, fold}
-use Rattle.std.specs.List.{AllByRecursion as All}
+use Rattle.std.specs.List.{AllByRecursion}
 use Rattle.instruction.specs.declared.Kind.TheVariants.{Issue, PayIn, Enter, Earmark, Fund, Settle, Free}
 use Rattle.instruction.specs.declared.Instruction.{Instruction}
 use Rattle.instruction.specs.Kinds.{code_of, kind_at}
@@ -31,9 +31,9 @@ EnterOn t x = (x.kind ≡ code_of Enter) × (x.trade ≡ t)
 
 -- a trade's state is that after its last instruction; its terms those of its last Enter
 pub record LastWords : Type 0 where
-  pub never : (xs : List Instruction) (t : ℕ) → All (λ x. On t x → ⊥) xs → state_in xs t ≡ Unentered
-  pub last : (xs zs : List Instruction) (x : Instruction) (t : ℕ) → On t x → All (λ z. On t z → ⊥) zs → After (kind_at x.kind) (state_in (xs ++ (x ∷ zs)) t)
-  pub terms : (xs zs : List Instruction) (x : Instruction) (t : ℕ) → EnterOn t x → All (λ z. EnterOn t z → ⊥) zs → terms_in (xs ++ (x ∷ zs)) t ≡ terms_of x
+  pub never : (xs : List Instruction) (t : ℕ) → AllByRecursion (λ x. On t x → ⊥) xs → state_in xs t ≡ Unentered
+  pub last : (xs zs : List Instruction) (x : Instruction) (t : ℕ) → On t x → AllByRecursion (λ z. On t z → ⊥) zs → After (kind_at x.kind) (state_in (xs ++ (x ∷ zs)) t)
+  pub terms : (xs zs : List Instruction) (x : Instruction) (t : ℕ) → EnterOn t x → AllByRecursion (λ z. EnterOn t z → ⊥) zs → terms_in (xs ++ (x ∷ zs)) t ≡ terms_of x
 
 -- where a list of accepted instructions leads
 abbrev pub standing_after : List Instruction → Standing

@@ -1,6 +1,6 @@
 -- The lines of a text: one after the other, and all put together again. Assumes nothing.
 use Rattle.std.proofs.Common.{◌≡◌, ℕ, suc, ◌+◌, ◌<◌, eqb, List, [], ◌∷◌, ◌++◌, length, take, drop, sym, refl, ap, ◌∙◌, ⊎_elim, arith}
-use Rattle.std.specs.List.{prefix_len, flat_map, AllByRecursion as All}
+use Rattle.std.specs.List.{prefix_len, flat_map, AllByRecursion}
 use Rattle.std.proofs.lemmas.Bool.{eqb-true, eqb-false, cases_Bool}
 use Rattle.script.specs.Feeds.{in_line, first_line, after_line, on_first, lines_of, closed, Splits}
 
@@ -27,11 +27,11 @@ pub lines_of-more : (bs : List ℕ) → 0 < length bs → lines_of bs ≡ first_
 lines_of-more [] h = absurd (omega arith)
 lines_of-more (c ∷ cs) h = more-cons c cs
 
-unbroken-first : (c : ℕ) (ls : List (List ℕ)) → (c ≡ 10 → ⊥) → All (All (λ c. c ≡ 10 → ⊥)) ls → All (All (λ c. c ≡ 10 → ⊥)) (on_first c ls)
+unbroken-first : (c : ℕ) (ls : List (List ℕ)) → (c ≡ 10 → ⊥) → AllByRecursion (AllByRecursion (λ c. c ≡ 10 → ⊥)) ls → AllByRecursion (AllByRecursion (λ c. c ≡ 10 → ⊥)) (on_first c ls)
 unbroken-first c [] h a = ((h, tt), tt)
 unbroken-first c (l ∷ ls) h a = ((h, a.0), a.1)
 
-unbroken : (bs : List ℕ) → All (All (λ c. c ≡ 10 → ⊥)) (lines_of bs)
+unbroken : (bs : List ℕ) → AllByRecursion (AllByRecursion (λ c. c ≡ 10 → ⊥)) (lines_of bs)
 unfolding lines_of
 unbroken [] = tt
 unbroken (c ∷ cs) =

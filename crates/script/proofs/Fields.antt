@@ -1,6 +1,6 @@
 -- The fields of a line, against their text. Assumes nothing.
 use Rattle.std.proofs.Common.{◌≡◌, ℕ, zero, suc, ◌+◌, ◌^◌, ◌<◌, ◌≤◌, Bool, true, false, cond, eqb, leb, List, [], ◌∷◌, ◌++◌, length, get_or, take, drop, Some, None, decimal, Option, sym, refl, ap, ◌∙◌, subst, arith}
-use Rattle.std.specs.List.{prefix_len, AllByRecursion as All}
+use Rattle.std.specs.List.{prefix_len, AllByRecursion}
 use Rattle.std.proofs.lemmas.Bool.{lt-leb, eqb-true, ne_eqb, and_left}
 use Rattle.std.proofs.lemmas.List.{take-append-drop, take_at, drop_at, nil_from_length}
 use Rattle.std.proofs.lemmas.Fmt.{digits_decimal, decimal_nonempty}
@@ -136,12 +136,12 @@ begins : (m : ℕ) (ms bs ns : List ℕ) (o : Option ℕ) → ((n : ℕ) → o �
 begins m ms bs ns (Some n) f h e = let p = f n refl in joins m n ms bs ns (fields_of ms (past bs)) p.0 p.1 h e
 begins m ms bs ns None f h e = absurd (none-some ns e)
 
-pub fields-sound : (ms bs ns : List ℕ) → All (λ m. m < 2 ^ 64) ms → fields_of ms bs ≡ Some ns → (bs ≡ fields_text ns) × Within ns ms
+pub fields-sound : (ms bs ns : List ℕ) → AllByRecursion (λ m. m < 2 ^ 64) ms → fields_of ms bs ≡ Some ns → (bs ≡ fields_text ns) × Within ns ms
 fields-sound [] bs ns a e = done bs ns (eqb (length bs) 0) refl e
 fields-sound (m ∷ ms) bs ns a e =
     begins m ms bs ns (field_of m bs) (λ n. field-sound m n bs a.0) (λ more. fields-sound ms (past bs) more a.1) e
 
-pub fields-complete : (ms ns : List ℕ) → All (λ m. m < 2 ^ 64) ms → Within ns ms → fields_of ms (fields_text ns) ≡ Some ns
+pub fields-complete : (ms ns : List ℕ) → AllByRecursion (λ m. m < 2 ^ 64) ms → Within ns ms → fields_of ms (fields_text ns) ≡ Some ns
 fields-complete [] [] a w = refl
 fields-complete [] (n ∷ ns) a w = absurd w
 fields-complete (m ∷ ms) [] a w = absurd w

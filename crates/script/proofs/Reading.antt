@@ -1,6 +1,6 @@
 -- A line is read as the one well-formed request that it is the text of. Assumes nothing.
 use Rattle.std.proofs.Common.{◌≡◌, ℕ, ◌^◌, ◌<◌, ◌≤◌, Bool, true, false, cond, eqb, List, [], ◌∷◌, get_or, Some, None, Option, sym, refl, ap, ◌∙◌, subst, arith, lit<, rules}
-use Rattle.std.specs.List.{AllByRecursion as All}
+use Rattle.std.specs.List.{AllByRecursion}
 use Rattle.std.proofs.lemmas.Bool.{eqb-true}
 use Rattle.instruction.specs.declared.Kind.{Kind}
 use Rattle.instruction.specs.declared.Kind.TheVariants.{Issue, PayIn, Enter, Earmark, Fund, Settle, Free}
@@ -17,7 +17,7 @@ use Rattle.script.proofs.Fields.{Seen, seen, first-letter, Within, fields-sound,
 none-some : {X : Type 0} (x : X) → None ≡ Some x → ⊥
 none-some x e = let z : ◌≡◌ {A = ℕ} 0 1 = cc in omega arith
 
-narrow : (k : Kind) → All (λ m. m < 2 ^ 64) (widths k)
+narrow : (k : Kind) → AllByRecursion (λ m. m < 2 ^ 64) (widths k)
 narrow Issue = (lit< tt, (lit< tt, (lit< tt, tt)))
 narrow PayIn = (lit< tt, (lit< tt, (lit< tt, tt)))
 narrow Enter = (lit< tt, (lit< tt, (lit< tt, (lit< tt, (lit< tt, (lit< tt, (lit< tt, tt)))))))
@@ -101,7 +101,7 @@ filled-code Fund ns = refl
 filled-code Settle ns = refl
 filled-code Free ns = refl
 
-filled-zeros : (k : Kind) (ns : List ℕ) → All (λ n. n ≡ 0) (unused k (filled k ns))
+filled-zeros : (k : Kind) (ns : List ℕ) → AllByRecursion (λ n. n ≡ 0) (unused k (filled k ns))
 filled-zeros Issue ns = (refl, (refl, (refl, (refl, tt))))
 filled-zeros PayIn ns = (refl, (refl, (refl, (refl, tt))))
 filled-zeros Enter ns = tt
@@ -124,12 +124,12 @@ text_of : (k : Kind) (i : Instruction) → i.kind ≡ code_of k → written (Ins
 text_of k i e = ap (λ n. text_as (kind_at n) i) e ∙ ap (λ o. text_as o i) (kind-own k)
 
 -- an instruction of a kind is filled with its own fields
-on-trade-own : (k : Kind) (i : Instruction) → i.kind ≡ code_of k → All (λ n. n ≡ 0) (i.account ∷ i.counterparty ∷ i.item ∷ i.currency ∷ i.quantity ∷ i.amount ∷ [])
+on-trade-own : (k : Kind) (i : Instruction) → i.kind ≡ code_of k → AllByRecursion (λ n. n ≡ 0) (i.account ∷ i.counterparty ∷ i.item ∷ i.currency ∷ i.quantity ∷ i.amount ∷ [])
     → i ≡ on_trade k i.trade
 on-trade-own k i e z =
     λ j. record { kind = e j; account = z.0 j; counterparty = z.1.0 j; item = z.1.1.0 j; currency = z.1.1.1.0 j; trade = i.trade; quantity = z.1.1.1.1.0 j; amount = z.1.1.1.1.1.0 j }
 
-filled-own : (k : Kind) (i : Instruction) → i.kind ≡ code_of k → All (λ n. n ≡ 0) (unused k i) → i ≡ filled k (used k i)
+filled-own : (k : Kind) (i : Instruction) → i.kind ≡ code_of k → AllByRecursion (λ n. n ≡ 0) (unused k i) → i ≡ filled k (used k i)
 filled-own Issue i e z =
     λ j. record { kind = e j; account = i.account; counterparty = z.0 j; item = i.item; currency = z.1.0 j; trade = z.1.1.0 j; quantity = i.quantity; amount = z.1.1.1.0 j }
 filled-own PayIn i e z =
@@ -244,7 +244,7 @@ for-kind Free bs = refl
 at-letter : (c : ℕ) (bs : List ℕ) → is_letter c ≡ true → request_of (c ∷ bs) ≡ request_for c bs
 at-letter c bs l = let f = first-letter c bs l in λ j. request_after (f.0 j) (f.1 j)
 
-kind-complete : (k : Kind) (i : Instruction) → i.kind ≡ code_of k → All (λ n. n ≡ 0) (unused k i) → Fit i → request_of (written (Instruct i)) ≡ Some (Instruct i)
+kind-complete : (k : Kind) (i : Instruction) → i.kind ≡ code_of k → AllByRecursion (λ n. n ≡ 0) (unused k i) → Fit i → request_of (written (Instruct i)) ≡ Some (Instruct i)
 kind-complete k i e z f =
     ap request_of (text_of k i e)
     ∙ at-letter (letter_of k) (fields_text (used k i)) (letter-is k)

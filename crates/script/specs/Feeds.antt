@@ -1,6 +1,6 @@
 -- A text as lines, each ended by a line feed (10), which the last line may lack. Assumes nothing.
 use Rattle.std.specs.Prelude.{◌≡◌, ℕ, Bool, cond, not, List, [], ◌∷◌, ◌++◌, take, drop, ◌==◌, ◌≢◌}
-use Rattle.std.specs.List.{prefix_len, flat_map, AllByRecursion as All}
+use Rattle.std.specs.List.{prefix_len, flat_map, AllByRecursion}
 
 abbrev pub in_line : ℕ → Bool
 in_line c = not (c == 10)
@@ -30,5 +30,5 @@ closed (c ∷ d ∷ cs) = c ∷ closed (d ∷ cs)
 
 -- no line holds a line feed, and the lines with a line feed after each are the text, but for a missing last line feed
 pub record Splits (bs : List ℕ) (ls : List (List ℕ)) : Type 0 where
-  pub unbroken : All (All (λ c. c ≢ 10)) ls
+  pub unbroken : AllByRecursion (AllByRecursion (λ c. c ≢ 10)) ls
   pub whole : flat_map (λ l. l ++ (10 ∷ [])) ls ≡ closed bs

@@ -1,6 +1,6 @@
 -- The lines of a script. Assumes nothing.
 use Rattle.std.specs.Prelude.{◌≡◌, ℕ, ◌^◌, ◌<◌, cond, List, [], ◌∷◌, length, Some, None, Ok, Err, decimal, Option, Result, ◌==◌, ◌≢◌, slice_index}
-use Rattle.std.specs.List.{flat_map, AllByRecursion as All}
+use Rattle.std.specs.List.{flat_map, AllByRecursion}
 use Rattle.answers.specs.declared.Refusal.{Refusal}
 use Rattle.answers.specs.declared.Refusal.TheVariants.{UnlistedLine}
 use Rattle.instruction.specs.declared.Kind.{Kind}
@@ -164,7 +164,7 @@ written (Cash p) = 75 ∷ position_text p
 pub record OfAKind (i : Instruction) : Type 0 where
   pub which : Kind
   pub code : i.kind ≡ code_of which
-  pub zeros : All (λ n. n ≡ 0) (unused which i)
+  pub zeros : AllByRecursion (λ n. n ≡ 0) (unused which i)
   pub fit : Fit i
 
 -- the requests that a line can make
