@@ -182,11 +182,11 @@ impl Fault {
     }
 
     // The rules refuse the record of an entry, by this fault.
-    pub fn of_record(self, entry: u32) -> Fault
-        ensures { result ≡ of_record entry self }
+    pub fn of_record(self, number: u32) -> Fault
+        ensures { result ≡ of_record number self }
     {
         Fault {
-            entry: Some(entry),
+            entry: Some(number),
             trade: self.trade,
             rule: Some(self.refusal),
             ..Fault::plain(Refusal::RulesRefuse)

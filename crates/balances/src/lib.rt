@@ -4,7 +4,7 @@
 mod table;
 
 ghost use Rattle.std.specs.Prelude.{◌≡◌};
-ghost use Rattle.std.proofs.Common.{ap, rules, arith};
+ghost use Rattle.std.proofs.Common.{ap, rules};
 ghost use Rattle.book.specs.Holdings.{nothing};
 ghost use Rattle.book.specs.Rulings.{asked};
 ghost use Rattle.balances.specs.Rows.{balances_kind, at};
@@ -52,15 +52,15 @@ impl Book for Balances {
 
     ghost fixed = { balances_kind };
 
-    ghost within = { first_of (Prim.search rules, Prim.grind (arith, Self.row.coded.inj)) };
+    ghost within = { Prim.search rules };
 
     ghost outside = { λ b account item out.
         let e = at-outside b.rows b.full account item out in
         (ap (λ h. h.free) e, ap (λ h. h.blocked) e) };
 
-    ghost narrow = { first_of (Prim.search rules, Prim.grind (arith, Self.row.coded.inj)) };
+    ghost narrow = { Prim.search rules };
 
-    ghost useful = { first_of (Prim.search rules, Prim.grind (arith, Self.row.coded.inj)) };
+    ghost useful = { Prim.search rules };
 
     fn clear(&mut self) {
         *self = Balances::new();

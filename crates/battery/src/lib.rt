@@ -8,7 +8,7 @@ ghost use Rattle.device.specs.Images.{held};
 ghost use Rattle.battery.specs.Meaning.{image_of, meaning, image_written, never_loose};
 ghost use Rattle.device.proofs.Meaning.{bounded};
 ghost use Rattle.battery.specs.RowLaws.{shows};
-ghost use Rattle.std.proofs.Common.{rules, arith};
+ghost use Rattle.std.proofs.Common.{rules};
 
 mod state;
 
@@ -105,7 +105,7 @@ impl PoweredDevice for Battery {
 
     ghost revives = { λ d _ _ e. image_of e ≡ image_of d };
 
-    ghost limit = { first_of (Prim.search rules, Prim.grind (arith, Self.row.coded.inj)) };
+    ghost limit = { Prim.search rules };
 
     fn restart(&mut self, calls: u32, _remains: &[u8])
         ensures call { Restart (meaning self.old) (meaning self.new) calls 4294967295 }

@@ -10,7 +10,7 @@ ghost use Rattle.lots.specs.Owners.{lots_kind, free_of, blocked_of, at};
 ghost use Rattle.lots.specs.Meaning.{meaning};
 ghost use Rattle.lots.specs.Deeds;
 ghost use Rattle.lots.specs.Deeds.{free-outside, blocked-outside};
-ghost use Rattle.std.proofs.Common.{rules, arith};
+ghost use Rattle.std.proofs.Common.{rules};
 
 use answers::Refusal;
 use book::{Book, covers};
@@ -75,9 +75,9 @@ impl Book for Lots {
 
     ghost outside = { λ b account item out. (free-outside b.lots b.full b.owned account item out, blocked-outside b.lots b.full b.owned account item out) };
 
-    ghost narrow = { first_of (Prim.search rules, Prim.grind (arith, Self.row.coded.inj)) };
+    ghost narrow = { Prim.search rules };
 
-    ghost useful = { first_of (Prim.search rules, Prim.grind (arith, Self.row.coded.inj)) };
+    ghost useful = { Prim.search rules };
 
     fn clear(&mut self) {
         *self = Lots::new();

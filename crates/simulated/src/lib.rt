@@ -8,7 +8,7 @@ ghost use Rattle.simulated.specs.Rows.{image_written, ImageSynced, ImageRestarte
 ghost use Rattle.simulated.specs.Meaning.{image_of, meaning};
 ghost use Rattle.device.proofs.Meaning.{bounded};
 ghost use Rattle.simulated.specs.RowLaws.{shows};
-ghost use Rattle.std.proofs.Common.{rules, arith};
+ghost use Rattle.std.proofs.Common.{rules};
 
 mod lists;
 mod rows;
@@ -93,7 +93,7 @@ impl PoweredDevice for Simulated {
 
     ghost revives = { λ d _ remains e. ImageRestarted (image_of d) remains (image_of e) };
 
-    ghost limit = { first_of (Prim.search rules, Prim.grind (arith, Self.row.coded.inj)) };
+    ghost limit = { Prim.search rules };
 
     fn restart(&mut self, calls: u32, remains: &[u8])
         ensures call { Restart (meaning self.old) (meaning self.new) calls 4294967295 }
