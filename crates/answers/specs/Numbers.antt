@@ -1,5 +1,5 @@
 -- The refusals' numbers and places, as operators know them. Assumes nothing.
-use Rattle.std.specs.Prelude.{◌≡◌, ℕ}
+use Rattle.std.specs.Prelude.{◌≡◌, ℕ, Ok, Err, Result}
 use Rattle.answers.specs.declared.Place.{Place}
 use Rattle.answers.specs.declared.Place.TheVariants.{Device, Book, Trades, Journal, Engine, Script}
 use Rattle.answers.specs.declared.Refusal.{Refusal}
@@ -44,6 +44,11 @@ number_of NoRoom = 61
 -- a script: a line of no listed form; an input of more than 65,536 bytes
 number_of UnlistedLine = 71
 number_of InputTooLong = 73
+
+-- the number of an answer: 0 for yes, else the refusal's
+abbrev pub answer_number : Result (Unit {0}) Refusal → ℕ
+answer_number (Ok u) = 0
+answer_number (Err r) = number_of r
 
 abbrev pub place_of : Refusal → Place
 place_of NoBlock = Device

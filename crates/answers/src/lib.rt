@@ -2,11 +2,11 @@
 #![tactic(auto)]
 
 ghost use Rattle.std.specs.Prelude.{◌≡◌};
-ghost use Rattle.answers.specs.Numbers.{number_of, place_of, NumbersTellApart};
+ghost use Rattle.answers.specs.Numbers.{number_of, answer_number, place_of, NumbersTellApart};
 ghost use Rattle.answers.specs.Faults.{plain, at_block, on_trade, in_entry, of_trade, of_record};
 
 // The part of the engine that refuses.
-#[derive(Clone, Copy, PartialEq)]
+#[derive(Clone, Copy, Debug, PartialEq, Eq)]
 pub enum Place {
     Device,
     Book,
@@ -16,73 +16,44 @@ pub enum Place {
     Script,
 }
 
-// Each way in which a call may refuse.
-#[derive(Clone, Copy, PartialEq)]
+// Each way in which a call may refuse, by the number that operators and examiners know it by.
+#[derive(Clone, Copy, Debug, PartialEq, Eq)]
 pub enum Refusal {
-    NoBlock,
-    NotABlock,
-    NoCalls,
-    Unreadable,
-    NoAccount,
-    NoItem,
-    NoQuantity,
-    OverCeiling,
-    OverFree,
-    OverBlocked,
-    NoTrade,
-    StrayField,
-    UnknownKind,
-    SameParties,
-    EverEntered,
-    WrongState,
-    JournalFull,
-    OpeningRefused,
-    EngineDown,
-    NotAHeader,
-    OtherKinds,
-    TooFewBlocks,
-    Malformed,
-    RulesRefuse,
-    NoRoom,
-    UnlistedLine,
-    InputTooLong,
+    NoBlock = 11,
+    NotABlock = 12,
+    NoCalls = 13,
+    Unreadable = 14,
+    NoAccount = 21,
+    NoItem = 22,
+    NoQuantity = 23,
+    OverCeiling = 24,
+    OverFree = 25,
+    OverBlocked = 26,
+    NoTrade = 30,
+    StrayField = 31,
+    UnknownKind = 32,
+    SameParties = 33,
+    EverEntered = 34,
+    WrongState = 35,
+    JournalFull = 36,
+    OpeningRefused = 41,
+    EngineDown = 42,
+    NotAHeader = 43,
+    OtherKinds = 44,
+    TooFewBlocks = 45,
+    Malformed = 46,
+    RulesRefuse = 47,
+    NoRoom = 61,
+    UnlistedLine = 71,
+    InputTooLong = 73,
 }
 
 impl Refusal {
-    // The number that operators and examiners know the refusal by.
     pub fn number(self) -> u8
         ensures value { result ≡ number_of self }
         ensures apart { NumbersTellApart }
     {
-        match self {
-            Refusal::NoBlock => 11,
-            Refusal::NotABlock => 12,
-            Refusal::NoCalls => 13,
-            Refusal::Unreadable => 14,
-            Refusal::NoAccount => 21,
-            Refusal::NoItem => 22,
-            Refusal::NoQuantity => 23,
-            Refusal::OverCeiling => 24,
-            Refusal::OverFree => 25,
-            Refusal::OverBlocked => 26,
-            Refusal::NoTrade => 30,
-            Refusal::StrayField => 31,
-            Refusal::UnknownKind => 32,
-            Refusal::SameParties => 33,
-            Refusal::EverEntered => 34,
-            Refusal::WrongState => 35,
-            Refusal::JournalFull => 36,
-            Refusal::OpeningRefused => 41,
-            Refusal::EngineDown => 42,
-            Refusal::NotAHeader => 43,
-            Refusal::OtherKinds => 44,
-            Refusal::TooFewBlocks => 45,
-            Refusal::Malformed => 46,
-            Refusal::RulesRefuse => 47,
-            Refusal::NoRoom => 61,
-            Refusal::UnlistedLine => 71,
-            Refusal::InputTooLong => 73,
-        }
+        self as u8
     }
 
     pub fn place(self) -> Place
@@ -116,9 +87,19 @@ impl Refusal {
     }
 }
 
+// The number that a call answers: 0, or its refusal's.
+pub fn answer_number(answer: Result<(), Refusal>) -> u8
+    ensures { result ≡ answer_number answer }
+{
+    match answer {
+        Ok(()) => 0,
+        Err(refusal) => refusal.number(),
+    }
+}
+
 // A refusal with the block, entry and trade that it concerns, and, where the rules refused what a journal
 // holds, the rules' own refusal.
-#[derive(Clone, Copy, PartialEq)]
+#[derive(Clone, Copy, Debug, PartialEq, Eq)]
 pub struct Fault {
     pub refusal: Refusal,
     pub block: Option<u32>,
@@ -203,5 +184,14 @@ impl Fault {
         ensures { result ≡ place_of self.now.refusal }
     {
         self.refusal.place()
+    }
+}
+
+// A refusal by itself concerns no block, entry or trade.
+impl From<Refusal> for Fault {
+    ghost from_gives = { λ refusal fault. fault ≡ plain refusal };
+
+    fn from(refusal: Refusal) -> Fault {
+        Fault::plain(refusal)
     }
 }

@@ -12,10 +12,8 @@ ghost use Rattle.balances.specs.Meaning.{meaning};
 ghost use Rattle.balances.specs.Put.{at-outside};
 
 use answers::Refusal;
-use book::{Book, Holding, covers};
+use book::{ACCOUNTS, Book, Holding, covers};
 pub use table::Balances;
-
-const ACCOUNTS: u16 = 64;
 
 const ITEMS: u16 = 16;
 
@@ -99,13 +97,11 @@ impl Book for Balances {
     }
 
     fn free(&self, account: u16, item: u16) -> Result<u64, Refusal> {
-        let held = self.held(account, item)?;
-        Ok(held.free)
+        self.held(account, item).map(|held| held.free)
     }
 
     fn blocked(&self, account: u16, item: u16) -> Result<u64, Refusal> {
-        let held = self.held(account, item)?;
-        Ok(held.blocked)
+        self.held(account, item).map(|held| held.blocked)
     }
 
     fn items(&self) -> u16 {

@@ -1,10 +1,11 @@
 -- What an accepted deed tells of its book, and what it leaves. Assumes nothing.
-use Rattle.std.proofs.Common.{◌≡◌, ℕ, ◌+◌, ◌<◌, ◌≤◌, Bool, true, false, cond, ◌||◌, eqb, ltb, leb, List, [], ◌∷◌, Ok, Err, Result, refl, ap, arith}
+use Rattle.std.proofs.Common.{◌≡◌, ℕ, ◌+◌, ◌<◌, ◌≤◌, Bool, true, false, cond, ◌||◌, eqb, ltb, leb, List, [], ◌∷◌, Ok, Err, Result, refl, sym, ap, ◌∙◌, arith}
 use Rattle.std.proofs.lemmas.Bool.{leb-false, ltb-false, eqb-false, lt-leb, le-ltb, ne_eqb, or_parts}
 use Rattle.answers.specs.declared.Refusal.{Refusal}
 use Rattle.answers.specs.declared.Refusal.TheVariants.{NoAccount, NoItem, NoQuantity, OverBlocked}
 use Rattle.book.specs.Holdings.{Holdings, BookKind, total, limit, Deed, keep, crediting, blocking, releasing, moving, apply}
 use Rattle.book.specs.Rulings.{Check, ◌refuses◌, first, checks, ruling, on_ok, outcome, asked, covering}
+use Rattle.book.proofs.Asked.{asked-within}
 use Rattle.book.proofs.Totals.{credit-below, total-block, total-release, total-move}
 
 pass : (t : Bool) (e : Refusal) (r : Result (Unit {0}) Refusal) → Ok tt ≡ cond t (Err e) r → (t ≡ false) × (Ok tt ≡ r)
@@ -25,6 +26,12 @@ outcome-err k b w r e = ap (λ r. on_ok r (apply b w) b) e
 -- a question that is answered lies within the book
 pub asked-ok : {X : Type 0} (k : BookKind) (f : ℕ → ℕ → X) (a i : ℕ) (x : X) → Ok x ≡ asked k f a i → (a < 64) × (i < k.items) × (x ≡ f a i)
 asked-ok k f a i x e = let p = given (leb 64 a) (leb k.items i) x (f a i) e in (leb-false 64 a p.0, leb-false k.items i p.1, p.2)
+
+-- what is answered of the whole is answered of a part of it
+pub asked-part : {X Y : Type 0} (g : X → Y) (k : BookKind) (f : ℕ → ℕ → X) (a i : ℕ) (x : X) → Ok x ≡ asked k f a i → Ok (g x) ≡ asked k (λ a i. g (f a i)) a i
+asked-part g k f a i x e =
+    let p = asked-ok k f a i x e in
+    ap (λ y. Ok (g y)) p.2 ∙ sym (asked-within k (λ a i. g (f a i)) a i p.0 p.1)
 
 pub covers-ok : (n q : ℕ) (short : Refusal) → Ok tt ≡ covering n q short → (0 < q) × (q ≤ n)
 covers-ok n q short e =

@@ -8,8 +8,11 @@ ghost use Rattle.book.specs.Rulings.{ruling, outcome, asked, covering, holding_a
 
 use answers::Refusal;
 
+// How many accounts a book has, numbered from 0.
+pub const ACCOUNTS: u16 = 64;
+
 // An account's free and blocked amount of one item.
-#[derive(Clone, Copy)]
+#[derive(Clone, Copy, Debug, Default, PartialEq, Eq)]
 pub struct Holding {
     pub free: u64,
     pub blocked: u64,
@@ -81,10 +84,7 @@ pub trait Book {
     fn available(&self, account: u16, item: u16) -> u64
         ensures { result ≡ (holdings self.now).free account item }
     {
-        match self.free(account, item) {
-            Ok(amount) => amount,
-            Err(_) => 0,
-        }
+        self.free(account, item).unwrap_or(0)
     }
 
     // Free and blocked together.
@@ -104,11 +104,9 @@ pub trait Book {
             return Err(Refusal::NoItem);
         }
         let mut sum = 0u64;
-        for account in 0..64u16 {
-            match self.holding(account, item) {
-                Ok(held) => sum += held.free + held.blocked,
-                Err(refusal) => return Err(refusal),
-            }
+        for account in 0..ACCOUNTS {
+            let held = self.holding(account, item)?;
+            sum += held.free + held.blocked;
         }
         Ok(sum)
     }
@@ -117,7 +115,7 @@ pub trait Book {
     fn credit_ruling(&self, account: u16, item: u16, quantity: u64) -> Result<(), Refusal>
         ensures { result ≡ ruling fixed (holdings self.now) (crediting account item quantity) }
     {
-        if account >= 64 {
+        if account >= ACCOUNTS {
             return Err(Refusal::NoAccount);
         }
         let total = self.total(item)?;

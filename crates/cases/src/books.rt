@@ -1,17 +1,10 @@
 // Every call of both books, with each number at 0, at its largest and one past.
-use answers::Refusal;
+use answers::{Refusal, answer_number};
 use balances::Balances;
 use book::Book;
 use lots::Lots;
 
 const ACCOUNTS: [u16; 4] = [0, 63, 64, 65535];
-
-fn number(answer: Result<(), Refusal>) -> u8 {
-    match answer {
-        Ok(()) => 0,
-        Err(refusal) => refusal.number(),
-    }
-}
 
 fn amount(answer: Result<u64, Refusal>) -> (u8, u64) {
     match answer {
@@ -36,10 +29,10 @@ fn change<B: Book>(
     item: u16,
     quantity: u64,
 ) -> anyhow::Result<()> {
-    let credit = number(book.credit(account, item, quantity));
-    let block = number(book.block(account, item, quantity));
-    let release = number(book.release(account, item, quantity));
-    let again = number(book.block(account, item, quantity));
+    let credit = answer_number(book.credit(account, item, quantity));
+    let block = answer_number(book.block(account, item, quantity));
+    let release = answer_number(book.release(account, item, quantity));
+    let again = answer_number(book.block(account, item, quantity));
     println!(rt;
         "  {account} {item} {quantity}: credit {credit} block {block} release {release} block {again}"
     )?;
@@ -53,9 +46,9 @@ fn give<B: Book>(
     to: u16,
     item: u16,
 ) -> anyhow::Result<()> {
-    let none = number(book.transfer(from, to, item, 0));
-    let one = number(book.transfer(from, to, item, 1));
-    let most = number(book.transfer(from, to, item, u64::MAX));
+    let none = answer_number(book.transfer(from, to, item, 0));
+    let one = answer_number(book.transfer(from, to, item, 1));
+    let most = answer_number(book.transfer(from, to, item, u64::MAX));
     println!(rt; "  {from} to {to} of {item}: 0 {none} 1 {one} most {most}")?;
     ask(rt, book, to, item)
 }

@@ -1,38 +1,10 @@
 // Instructions, those that no script can state among them, and strings of bytes.
-use answers::{Fault, Refusal};
+use answers::Refusal;
 use balances::Balances;
 use book::Book;
-use instruction::Instruction;
+use instruction::{Instruction, Kind};
 use ledger::Ledger;
 use lots::Lots;
-use rulebook::State;
-
-// The fields in the order of the bytes.
-fn instruction(
-    kind: u8,
-    parties: (u16, u16),
-    assets: (u16, u16),
-    trade: u32,
-    volumes: (u64, u64),
-) -> Instruction {
-    let (account, counterparty) = parties;
-    let (item, currency) = assets;
-    let (quantity, amount) = volumes;
-    Instruction {
-        kind,
-        account,
-        counterparty,
-        item,
-        currency,
-        trade,
-        quantity,
-        amount,
-    }
-}
-
-fn trade_of(fault: &Fault) -> Option<u32> {
-    fault.trade
-}
 
 fn give<R: Book, C: Book>(
     rt: &HostRuntime,
@@ -44,7 +16,7 @@ fn give<R: Book, C: Book>(
         Ok(()) => println!(rt; "  {name}: 0")?,
         Err(fault) => {
             let number = fault.number();
-            match trade_of(&fault) {
+            match fault.trade {
                 Some(trade) => println!(rt; "  {name}: {number}, trade {trade}")?,
                 None => println!(rt; "  {name}: {number}")?,
             }
@@ -53,165 +25,164 @@ fn give<R: Book, C: Book>(
     Ok(())
 }
 
+fn give_all<R: Book, C: Book>(
+    rt: &HostRuntime,
+    ledger: &mut Ledger<R, C>,
+    named: &[(&str, Instruction)],
+) -> anyhow::Result<()> {
+    for (name, x) in named {
+        give(rt, ledger, name, x)?;
+    }
+    Ok(())
+}
+
+// An instruction with 0 in each field.
+fn blank(kind: Kind) -> Instruction {
+    Instruction {
+        kind: kind.into(),
+        ..Instruction::default()
+    }
+}
+
+fn on_trade(kind: Kind, trade: u32) -> Instruction {
+    Instruction {
+        trade,
+        ..blank(kind)
+    }
+}
+
+// A kind byte that no kind has.
+fn unknown(kind: u8) -> Instruction {
+    Instruction {
+        kind,
+        ..Instruction::default()
+    }
+}
+
 // Kinds that are none, each with a field that is not 0: the kind is checked first.
 fn kinds<R: Book, C: Book>(rt: &HostRuntime, ledger: &mut Ledger<R, C>) -> anyhow::Result<()> {
-    give(
+    let with_trade = Instruction {
+        trade: 1,
+        ..unknown(8)
+    };
+    let with_amount = Instruction {
+        amount: 1,
+        ..unknown(255)
+    };
+    give_all(
         rt,
         ledger,
-        "kind 0",
-        &instruction(0, (0, 0), (0, 0), 0, (0, 0)),
-    )?;
-    give(
-        rt,
-        ledger,
-        "kind 8",
-        &instruction(8, (0, 0), (0, 0), 1, (0, 0)),
-    )?;
-    give(
-        rt,
-        ledger,
-        "kind 255",
-        &instruction(255, (0, 0), (0, 0), 0, (0, 1)),
+        &[("kind 0", unknown(0)), ("kind 8", with_trade), ("kind 255", with_amount)],
     )
 }
 
-// One field too many for each kind.
-fn stray_fields<R: Book, C: Book>(
+// One field too many for each kind that brings something in.
+fn stray_credits<R: Book, C: Book>(
     rt: &HostRuntime,
     ledger: &mut Ledger<R, C>,
 ) -> anyhow::Result<()> {
-    give(
+    let issue_of_amount = Instruction {
+        amount: 1,
+        ..blank(Kind::Issue)
+    };
+    let pay_in_of_item = Instruction {
+        item: 1,
+        ..blank(Kind::PayIn)
+    };
+    let pay_in_of_quantity = Instruction {
+        quantity: 1,
+        ..blank(Kind::PayIn)
+    };
+    give_all(
         rt,
         ledger,
-        "Issue with a trade",
-        &instruction(1, (0, 0), (0, 0), 1, (0, 0)),
-    )?;
-    give(
-        rt,
-        ledger,
-        "Issue with an amount",
-        &instruction(1, (0, 0), (0, 0), 0, (0, 1)),
-    )?;
-    give(
-        rt,
-        ledger,
-        "Pay in with an item",
-        &instruction(2, (0, 0), (1, 0), 0, (0, 0)),
-    )?;
-    give(
-        rt,
-        ledger,
-        "Pay in with a quantity",
-        &instruction(2, (0, 0), (0, 0), 0, (1, 0)),
-    )?;
-    give(
-        rt,
-        ledger,
-        "Earmark with an account",
-        &instruction(4, (1, 0), (0, 0), 128, (0, 0)),
-    )?;
-    give(
-        rt,
-        ledger,
-        "Fund with a counterparty",
-        &instruction(5, (0, 1), (0, 0), 127, (0, 0)),
-    )?;
-    give(
-        rt,
-        ledger,
-        "Settle with a currency",
-        &instruction(6, (0, 0), (0, 1), 4294967295, (0, 0)),
-    )?;
-    give(
-        rt,
-        ledger,
-        "Free with an amount",
-        &instruction(7, (0, 0), (0, 0), 0, (0, 18446744073709551615)),
+        &[
+            ("Issue with a trade", on_trade(Kind::Issue, 1)),
+            ("Issue with an amount", issue_of_amount),
+            ("Pay in with an item", pay_in_of_item),
+            ("Pay in with a quantity", pay_in_of_quantity),
+        ],
     )
 }
 
-// The rest of it.
-fn settling<R: Book, C: Book>(rt: &HostRuntime, ledger: &mut Ledger<R, C>) -> anyhow::Result<()> {
-    give(
+// One field too many for each kind that names a trade only.
+fn stray_trades<R: Book, C: Book>(
+    rt: &HostRuntime,
+    ledger: &mut Ledger<R, C>,
+) -> anyhow::Result<()> {
+    let earmark = Instruction {
+        account: 1,
+        ..on_trade(Kind::Earmark, 128)
+    };
+    let fund = Instruction {
+        counterparty: 1,
+        ..on_trade(Kind::Fund, 127)
+    };
+    let settle = Instruction {
+        currency: 1,
+        ..on_trade(Kind::Settle, u32::MAX)
+    };
+    let free = Instruction {
+        amount: u64::MAX,
+        ..on_trade(Kind::Free, 0)
+    };
+    give_all(
         rt,
         ledger,
-        "Earmark",
-        &instruction(4, (0, 0), (0, 0), 127, (0, 0)),
-    )?;
-    give(
-        rt,
-        ledger,
-        "Settle before Fund",
-        &instruction(6, (0, 0), (0, 0), 127, (0, 0)),
-    )?;
-    give(
-        rt,
-        ledger,
-        "Fund",
-        &instruction(5, (0, 0), (0, 0), 127, (0, 0)),
-    )?;
-    give(
-        rt,
-        ledger,
-        "Settle",
-        &instruction(6, (0, 0), (0, 0), 127, (0, 0)),
-    )?;
-    give(
-        rt,
-        ledger,
-        "Free after Settle",
-        &instruction(7, (0, 0), (0, 0), 127, (0, 0)),
+        &[
+            ("Earmark with an account", earmark),
+            ("Fund with a counterparty", fund),
+            ("Settle with a currency", settle),
+            ("Free with an amount", free),
+        ],
     )
 }
 
 // A whole settlement, and what comes too early, too late or twice.
 fn settlement<R: Book, C: Book>(rt: &HostRuntime, ledger: &mut Ledger<R, C>) -> anyhow::Result<()> {
-    let enter = instruction(3, (1, 2), (0, 0), 127, (1, 1));
-    give(
+    let issue = Instruction {
+        account: 1,
+        quantity: 1,
+        ..blank(Kind::Issue)
+    };
+    let pay_in = Instruction {
+        account: 2,
+        amount: 1,
+        ..blank(Kind::PayIn)
+    };
+    let enter = Instruction {
+        account: 1,
+        counterparty: 2,
+        quantity: 1,
+        amount: 1,
+        ..on_trade(Kind::Enter, 127)
+    };
+    give_all(
         rt,
         ledger,
-        "Issue",
-        &instruction(1, (1, 0), (0, 0), 0, (1, 0)),
-    )?;
-    give(
-        rt,
-        ledger,
-        "Pay in",
-        &instruction(2, (2, 0), (0, 0), 0, (0, 1)),
-    )?;
-    give(
-        rt,
-        ledger,
-        "Earmark before Enter",
-        &instruction(4, (0, 0), (0, 0), 127, (0, 0)),
-    )?;
-    give(rt, ledger, "Enter", &enter)?;
-    give(rt, ledger, "Enter again", &enter)?;
-    give(
-        rt,
-        ledger,
-        "Settle before Earmark",
-        &instruction(6, (0, 0), (0, 0), 127, (0, 0)),
-    )?;
-    settling(rt, ledger)
+        &[
+            ("Issue", issue),
+            ("Pay in", pay_in),
+            ("Earmark before Enter", on_trade(Kind::Earmark, 127)),
+            ("Enter", enter),
+            ("Enter again", enter),
+            ("Settle before Earmark", on_trade(Kind::Settle, 127)),
+            ("Earmark", on_trade(Kind::Earmark, 127)),
+            ("Settle before Fund", on_trade(Kind::Settle, 127)),
+            ("Fund", on_trade(Kind::Fund, 127)),
+            ("Settle", on_trade(Kind::Settle, 127)),
+            ("Free after Settle", on_trade(Kind::Free, 127)),
+        ],
+    )
 }
 
-// A trade's state by its place in the rules' table, from 0, or the refusal.
-fn state_number(answer: Result<State, Refusal>) -> u8 {
-    match answer {
-        Ok(State::Unentered) => 0,
-        Ok(State::Entered) => 1,
-        Ok(State::Earmarked) => 2,
-        Ok(State::Funded) => 3,
-        Ok(State::Settled) => 4,
-        Ok(State::Freed) => 5,
-        Err(refusal) => refusal.number(),
-    }
-}
-
+// A trade's state is told by its place in the rules' table, from 0.
 fn states<R: Book, C: Book>(rt: &HostRuntime, ledger: &Ledger<R, C>) -> anyhow::Result<()> {
-    for trade in [0, 127, 128, 4294967295] {
-        let answer = state_number(ledger.trade_state(trade));
+    for trade in [0, 127, 128, u32::MAX] {
+        let answer = match ledger.trade_state(trade) {
+            Ok(state) => state as u8,
+            Err(refusal) => refusal.number(),
+        };
         println!(rt; "  state of {trade}: {answer}")?;
     }
     Ok(())
@@ -224,45 +195,34 @@ fn all<R: Book, C: Book>(
 ) -> anyhow::Result<()> {
     println!(rt; "{name}")?;
     kinds(rt, ledger)?;
-    stray_fields(rt, ledger)?;
+    stray_credits(rt, ledger)?;
+    stray_trades(rt, ledger)?;
     settlement(rt, ledger)?;
     states(rt, ledger)
 }
 
-fn fields(rt: &HostRuntime, x: Instruction) -> anyhow::Result<()> {
-    let Instruction {
-        kind,
-        account,
-        counterparty,
-        item,
-        currency,
-        trade,
-        quantity,
-        amount,
-    } = x;
-    print!(rt; "{kind} {account} {counterparty} {item} {currency} ")?;
-    println!(rt; "{trade} {quantity} {amount}")?;
-    Ok(())
-}
-
-// What so many bytes are, where the byte at one place is 1 and the others are 0.
-fn read(rt: &HostRuntime, count: usize, place: usize) -> anyhow::Result<()> {
-    let mut bytes = [0u8; 33];
-    if place < 33 {
-        bytes[place] = 1;
-    }
-    if count > 33 {
-        return Ok(());
-    }
-    print!(rt; "  {count} bytes, byte {place} at 1: ")?;
-    match Instruction::from_bytes(&bytes[0..count]) {
-        Ok(x) => fields(rt, x),
+fn tell(rt: &HostRuntime, read: Result<Instruction, Refusal>) -> anyhow::Result<()> {
+    match read {
+        Ok(x) => {
+            print!(rt; "{} {} {} {} ", x.kind, x.account, x.counterparty, x.item)?;
+            println!(rt; "{} {} {} {}", x.currency, x.trade, x.quantity, x.amount)?;
+        }
         Err(refusal) => {
             let number = refusal.number();
             println!(rt; "{number}")?;
-            Ok(())
         }
     }
+    Ok(())
+}
+
+// What bytes are of which the one at a place is 1 and the others are 0.
+fn read<const N: usize>(rt: &HostRuntime, place: usize) -> anyhow::Result<()> {
+    let mut bytes = [0u8; N];
+    if let Some(byte) = bytes.get_mut(place) {
+        *byte = 1;
+    }
+    print!(rt; "  {N} bytes, byte {place} at 1: ")?;
+    tell(rt, Instruction::from_bytes(&bytes))
 }
 
 pub(crate) fn run(rt: &HostRuntime) -> anyhow::Result<()> {
@@ -273,11 +233,12 @@ pub(crate) fn run(rt: &HostRuntime) -> anyhow::Result<()> {
     let mut ledger = Ledger::new(Balances::new(), Lots::new());
     all(rt, "balances for lots", &mut ledger)?;
     println!(rt; "bytes")?;
-    for count in [0, 1, 31, 33] {
-        read(rt, count, 0)?;
-    }
-    for place in 0..32usize {
-        read(rt, 32, place)?;
+    read::<0>(rt, 0)?;
+    read::<1>(rt, 0)?;
+    read::<31>(rt, 0)?;
+    read::<33>(rt, 0)?;
+    for place in 0..32 {
+        read::<32>(rt, place)?;
     }
     Ok(())
 }

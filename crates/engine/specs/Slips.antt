@@ -6,12 +6,12 @@ use Rattle.engine.specs.declared.slip.Contents.{Contents}
 use Rattle.engine.specs.declared.slip.Verdict.{Verdict}
 use Rattle.engine.specs.declared.slip.Verdict.TheVariants.{Same, Stands, Unknown, Differs}
 
-abbrev pub contents : Slip → Contents
-contents s = record { known = s.known; entries = s.entries; hand = s.hand }
+abbrev pub contents : Slip → Option Contents
+contents s = s.holds
 
 -- the slip of an engine whose opening was refused
-abbrev pub unknown : Contents
-unknown = record { known = false; entries = 0; hand = None }
+abbrev pub unknown : Option Contents
+unknown = None
 
 -- the verdicts' numbers, as operators know them
 abbrev pub number_of : Verdict → ℕ
@@ -32,13 +32,13 @@ is_last (Some x) None = false
 is_last None last = false
 
 -- the verdict on a slip where n entries were found, the last of them as said
-abbrev pub judged : Contents → ℕ → Option Instruction → Verdict
-judged s n last =
-    cond s.known (cond (n == s.entries) Same (cond (n == s.entries + 1 && is_last s.hand last) Stands Differs)) Unknown
+abbrev pub judged : Option Contents → ℕ → Option Instruction → Verdict
+judged None n last = Unknown
+judged (Some s) n last = cond (n == s.entries) Same (cond (n == s.entries + 1 && is_last s.hand last) Stands Differs)
 
 -- The same in words.
-abbrev pub Judges : Contents → ℕ → Option Instruction → Verdict → Type 0
-Judges s n last Unknown = s.known ≡ false
-Judges s n last Same = n ≡ s.entries
-Judges s n last Stands = (n ≡ s.entries + 1) × ((x : Instruction) × (s.hand ≡ Some x) × (last ≡ Some x))
-Judges s n last Differs = (n ≢ s.entries) × ((x : Instruction) → n ≡ s.entries + 1 → s.hand ≡ Some x → last ≢ Some x)
+abbrev pub Judges : Option Contents → ℕ → Option Instruction → Verdict → Type 0
+Judges s n last Unknown = s ≡ None
+Judges s n last Same = (c : Contents) × (s ≡ Some c) × (n ≡ c.entries)
+Judges s n last Stands = (c : Contents) × (s ≡ Some c) × (n ≡ c.entries + 1) × ((x : Instruction) × (c.hand ≡ Some x) × (last ≡ Some x))
+Judges s n last Differs = (c : Contents) × (s ≡ Some c) × (n ≢ c.entries) × ((x : Instruction) → n ≡ c.entries + 1 → c.hand ≡ Some x → last ≢ Some x)

@@ -1,48 +1,40 @@
 // The closing slip: plain numbers, owed until it is presented or filed.
-ghost use Rattle.std.specs.Prelude.{◌≡◌, Bool, true, false};
-ghost use Rattle.engine.specs.Slips.{contents, judged, number_of, is_last, same_fields};
+ghost use Rattle.std.specs.Prelude.{◌≡◌, true, is_some};
+ghost use Rattle.engine.specs.Slips.{contents, judged, number_of, is_last};
 
 use instruction::Instruction;
 
-// What a slip holds: nothing known where the opening was refused, else the number of standing entries and the
-// instruction in hand.
-#[derive(Clone, Copy)]
+// What a slip tells: the number of standing entries, and the instruction in hand.
+#[derive(Clone, Copy, Debug, PartialEq, Eq)]
 pub struct Contents {
-    pub known: bool,
     pub entries: u32,
     pub hand: Option<Instruction>,
 }
 
-// What an engine says of a slip that is presented to it.
-#[derive(Clone, Copy)]
+// What an engine says of a slip that is presented to it, by the number that operators know it by.
+#[derive(Clone, Copy, Debug, PartialEq, Eq)]
 pub enum Verdict {
     // as many entries were found as stood
-    Same,
+    Same = 0,
     // one more was found, and it is the instruction in hand: it stands
-    Stands,
+    Stands = 1,
     // the slip tells nothing
-    Unknown,
+    Unknown = 53,
     // anything else
-    Differs,
+    Differs = 54,
 }
 
 impl Verdict {
     pub fn number(self) -> u8
         ensures { result ≡ number_of self }
     {
-        match self {
-            Verdict::Same => 0,
-            Verdict::Stands => 1,
-            Verdict::Unknown => 53,
-            Verdict::Differs => 54,
-        }
+        self as u8
     }
 }
 
+// A slip tells nothing where the opening was refused.
 pub struct Slip {
-    known: bool,
-    entries: u32,
-    hand: Option<Instruction>,
+    holds: Option<Contents>,
     spent: bool,
 }
 
@@ -52,57 +44,48 @@ impl Drop for Slip {
         requires { self.spent ≡ true }
     {
         let Slip {
-            known: _,
-            entries: _,
-            hand: _,
+            holds: _,
             spent: _,
         } = self;
     }
 }
 
 impl Slip {
-    pub(crate) fn owed(holds: Contents) -> Slip
+    pub(crate) fn owed(holds: Option<Contents>) -> Slip
         ensures { contents result ≡ holds }
     {
         Slip {
-            known: holds.known,
-            entries: holds.entries,
-            hand: holds.hand,
+            holds,
             spent: false,
         }
     }
 
     // Whether the slip tells anything.
     pub fn known(&self) -> bool
-        ensures { result ≡ (contents self.now).known }
+        ensures { result ≡ is_some (contents self.now) }
     {
-        self.known
+        self.holds.is_some()
     }
 
     // Answers what the slip holds, and never refuses.
-    pub fn file(mut self) -> Contents
+    pub fn file(mut self) -> Option<Contents>
         ensures { result ≡ contents self }
     {
         self.spent = true;
-        Contents {
-            known: self.known,
-            entries: self.entries,
-            hand: self.hand,
-        }
+        self.holds
     }
 
     // The verdict where so many entries were found, with this one the last.
     pub(crate) fn judge(self, found: u32, last: Option<Instruction>) -> Verdict
         ensures { result ≡ judged (contents self) found last }
     {
-        let holds = self.file();
-        if !holds.known {
+        let Some(holds) = self.file() else {
             return Verdict::Unknown;
-        }
+        };
         if found == holds.entries {
             return Verdict::Same;
         }
-        if found > holds.entries && found - holds.entries == 1 && is_last(holds.hand, last) {
+        if holds.entries.checked_add(1) == Some(found) && is_last(holds.hand, last) {
             return Verdict::Stands;
         }
         Verdict::Differs
@@ -113,21 +96,5 @@ impl Slip {
 fn is_last(hand: Option<Instruction>, last: Option<Instruction>) -> bool
     ensures { result ≡ is_last hand last }
 {
-    match (hand, last) {
-        (Some(x), Some(y)) => same(&x, &y),
-        _ => false,
-    }
-}
-
-fn same(x: &Instruction, y: &Instruction) -> bool
-    ensures { result ≡ same_fields x.now y.now }
-{
-    x.kind == y.kind
-        && x.account == y.account
-        && x.counterparty == y.counterparty
-        && x.item == y.item
-        && x.currency == y.currency
-        && x.trade == y.trade
-        && x.quantity == y.quantity
-        && x.amount == y.amount
+    hand.is_some() && hand == last
 }

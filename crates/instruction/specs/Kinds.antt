@@ -1,5 +1,7 @@
 -- The kinds of instructions and their kind bytes. Assumes nothing.
-use Rattle.std.specs.Prelude.{◌≡◌, ℕ, cond, Some, None, Option, ◌==◌}
+use Rattle.std.specs.Prelude.{◌≡◌, ℕ, cond, Some, None, Option, Ok, Err, Result, ◌==◌}
+use Rattle.answers.specs.declared.Refusal.{Refusal}
+use Rattle.answers.specs.declared.Refusal.TheVariants.{UnknownKind}
 use Rattle.instruction.specs.declared.Kind.{Kind}
 use Rattle.instruction.specs.declared.Kind.TheVariants.{Issue, PayIn, Enter, Earmark, Fund, Settle, Free}
 
@@ -16,6 +18,10 @@ abbrev pub kind_at : ℕ → Option Kind
 kind_at n =
     cond (n == 1) (Some Issue) (cond (n == 2) (Some PayIn) (cond (n == 3) (Some Enter) (cond (n == 4) (Some Earmark)
     (cond (n == 5) (Some Fund) (cond (n == 6) (Some Settle) (cond (n == 7) (Some Free) None))))))
+
+-- the kind that a kind byte means, or the refusal of one that means none
+abbrev pub kind_in : ℕ → Result Kind Refusal
+kind_in n = elim (kind_at n) [ Some k ↦ Ok k | None ↦ Err UnknownKind ]
 
 -- a kind is read off its own code, and off no other
 pub record KindsAndCodes : Type 0 where

@@ -2,14 +2,14 @@
 #![tactic(auto)]
 
 ghost use Rattle.std.specs.Prelude.{◌≡◌, ◌+◌, ◌≤◌, length, Ok};
-ghost use Rattle.instruction.specs.Kinds.{code_of, kind_at, KindsAndCodes};
+ghost use Rattle.instruction.specs.Kinds.{code_of, kind_in, KindsAndCodes};
 ghost use Rattle.instruction.specs.Layout.{bytes_of, instruction_in, field, Reads};
 
 use answers::Refusal;
-use little_endian::{read16, read32, read64, write16, write32, write64};
+use little_endian::LittleEndian;
 
 // What an instruction asks for.
-#[derive(Clone, Copy)]
+#[derive(Clone, Copy, Debug, PartialEq, Eq)]
 pub enum Kind {
     Issue = 1,
     PayIn,
@@ -20,35 +20,41 @@ pub enum Kind {
     Free,
 }
 
-impl Kind {
-    // The kind byte.
-    pub fn code(self) -> u8
-        ensures value { result ≡ code_of self }
+// The kind byte.
+impl From<Kind> for u8 {
+    ghost from_gives = { λ kind code. code ≡ code_of kind };
+
+    fn from(kind: Kind) -> u8
+        ensures value { result ≡ code_of kind }
         ensures paired { KindsAndCodes }
     {
-        self as u8
+        kind as u8
     }
+}
 
-    // The kind that a kind byte means, if any does.
-    pub fn from_code(code: u8) -> Option<Kind>
-        ensures { result ≡ kind_at code }
-    {
+// The kind that a kind byte means, if any does.
+impl TryFrom<u8> for Kind {
+    type Error = Refusal;
+
+    ghost try_from_gives = { λ code kind. kind ≡ kind_in code };
+
+    fn try_from(code: u8) -> Result<Kind, Refusal> {
         match code {
-            1 => Some(Kind::Issue),
-            2 => Some(Kind::PayIn),
-            3 => Some(Kind::Enter),
-            4 => Some(Kind::Earmark),
-            5 => Some(Kind::Fund),
-            6 => Some(Kind::Settle),
-            7 => Some(Kind::Free),
-            _ => None,
+            1 => Ok(Kind::Issue),
+            2 => Ok(Kind::PayIn),
+            3 => Ok(Kind::Enter),
+            4 => Ok(Kind::Earmark),
+            5 => Ok(Kind::Fund),
+            6 => Ok(Kind::Settle),
+            7 => Ok(Kind::Free),
+            _ => Err(Refusal::UnknownKind),
         }
     }
 }
 
 // The fields as they come, whether or not the kind is known or uses them: the rules judge that.
 // In an Enter `account` is the seller and `counterparty` the buyer.
-#[derive(Clone, Copy)]
+#[derive(Clone, Copy, Debug, Default, PartialEq, Eq)]
 pub struct Instruction {
     pub kind: u8,
     pub account: u16,
@@ -65,13 +71,13 @@ impl Instruction {
         ensures value { result ≡ bytes_of self }
         ensures read_back { instruction_in result ≡ Ok self }
     {
-        let [a0, a1] = write16(self.account);
-        let [b0, b1] = write16(self.counterparty);
-        let [i0, i1] = write16(self.item);
-        let [c0, c1] = write16(self.currency);
-        let [t0, t1, t2, t3] = write32(self.trade);
-        let [q0, q1, q2, q3, q4, q5, q6, q7] = write64(self.quantity);
-        let [m0, m1, m2, m3, m4, m5, m6, m7] = write64(self.amount);
+        let [a0, a1]: [u8; 2] = self.account.to_little_endian();
+        let [b0, b1]: [u8; 2] = self.counterparty.to_little_endian();
+        let [i0, i1]: [u8; 2] = self.item.to_little_endian();
+        let [c0, c1]: [u8; 2] = self.currency.to_little_endian();
+        let [t0, t1, t2, t3]: [u8; 4] = self.trade.to_little_endian();
+        let [q0, q1, q2, q3, q4, q5, q6, q7]: [u8; 8] = self.quantity.to_little_endian();
+        let [m0, m1, m2, m3, m4, m5, m6, m7]: [u8; 8] = self.amount.to_little_endian();
         [
             self.kind, 0, a0, a1, b0, b1, i0, i1, c0, c1, 0, 0, t0, t1, t2, t3, q0, q1, q2, q3, q4,
             q5, q6, q7, m0, m1, m2, m3, m4, m5, m6, m7,
@@ -91,43 +97,23 @@ impl Instruction {
         }
         Ok(Instruction {
             kind: bytes[0],
-            account: field16(bytes, 2),
-            counterparty: field16(bytes, 4),
-            item: field16(bytes, 6),
-            currency: field16(bytes, 8),
-            trade: field32(bytes, 12),
-            quantity: field64(bytes, 16),
-            amount: field64(bytes, 24),
+            account: field(bytes, 2),
+            counterparty: field(bytes, 4),
+            item: field(bytes, 6),
+            currency: field(bytes, 8),
+            trade: field(bytes, 12),
+            quantity: field(bytes, 16),
+            amount: field(bytes, 24),
         })
     }
 }
 
-fn field16(b: &[u8], at: usize) -> u16
-    requires { at + 2 ≤ length b.now }
-    ensures { result ≡ field at 2 b.now }
+// The number in the N bytes from a place on.
+fn field<T: LittleEndian<N>, const N: usize>(b: &[u8], at: usize) -> T
+    requires { at + N ≤ length b.now }
+    ensures { T.value result ≡ field at N b.now }
 {
-    read16([b[at], b[at + 1]])
-}
-
-fn field32(b: &[u8], at: usize) -> u32
-    requires { at + 4 ≤ length b.now }
-    ensures { result ≡ field at 4 b.now }
-{
-    read32([b[at], b[at + 1], b[at + 2], b[at + 3]])
-}
-
-fn field64(b: &[u8], at: usize) -> u64
-    requires { at + 8 ≤ length b.now }
-    ensures { result ≡ field at 8 b.now }
-{
-    read64([
-        b[at],
-        b[at + 1],
-        b[at + 2],
-        b[at + 3],
-        b[at + 4],
-        b[at + 5],
-        b[at + 6],
-        b[at + 7],
-    ])
+    let mut bytes = [0; N];
+    bytes.copy_from_slice(&b[at..at + N]);
+    T::from_little_endian(bytes)
 }

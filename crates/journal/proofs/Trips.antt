@@ -195,3 +195,11 @@ header-told bs n one two is low high z =
     let a : ltb 0 (field 4 4 bs) ≡ true = lt-ltb _ _ (omega arith) in
     let b : ltb (field 4 4 bs) 32768 ≡ true = lt-ltb _ _ (omega arith) in
     rw (one, two, a, b, sym z) (λ i. Ok (record { register = get_or bs 2 0; cash = get_or bs 3 0; pairs = is i }))
+
+-- a record whose every test was passed
+pub record-told : (k : ℕ) (bs : List ℕ) → field 0 4 bs ≡ k → field 4 4 bs ≡ 1 → true ≡ all_zero (drop 40 bs)
+    → instruction_in (take 32 (drop 8 bs)) ≡ record_in k bs
+record-told k bs is one z =
+    let a : eqb (field 0 4 bs) k ≡ true = eq-eqb _ _ is in
+    let b : eqb (field 4 4 bs) 1 ≡ true = eq-eqb _ _ one in
+    rw (a, b, sym z) refl

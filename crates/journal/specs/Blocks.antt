@@ -1,5 +1,6 @@
 -- The journal's blocks as bytes: header, record and mark, both ways. Assumes nothing.
 use Rattle.std.specs.Prelude.{ℕ, ◌-◌, Bool, true, cond, ◌&&◌, List, [], ◌∷◌, ◌++◌, take, drop, replicate, Some, None, Ok, Err, Option, Result, ◌==◌, nat_lt, slice_index}
+use Rattle.std.specs.List.{list_all}
 use Rattle.little_endian.specs.Little.{bytes}
 use Rattle.answers.specs.declared.Refusal.{Refusal}
 use Rattle.answers.specs.declared.Refusal.TheVariants.{NotAHeader, Malformed}
@@ -24,8 +25,7 @@ abbrev pub mark_bytes : ℕ → List ℕ
 mark_bytes k = bytes 4 k ++ (bytes 4 (4294967295 - k) ++ replicate 248 0)
 
 abbrev pub all_zero : List ℕ → Bool
-all_zero [] = true
-all_zero (b ∷ bs) = b == 0 && all_zero bs
+all_zero bs = list_all (λ b. b == 0) bs
 
 abbrev pub is_header : List ℕ → Bool
 is_header bs = slice_index bs 0 == 1 && (slice_index bs 1 == 2 && (nat_lt 0 (field 4 4 bs) && (nat_lt (field 4 4 bs) 32768 && all_zero (drop 8 bs))))

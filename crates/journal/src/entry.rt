@@ -6,22 +6,16 @@ ghost use Rattle.journal.specs.Reading.{ReadsMark, ReadsRecord};
 use crate::zeros::all_zero;
 use answers::Refusal;
 use instruction::Instruction;
-use little_endian::{read32, write32};
+use little_endian::LittleEndian;
 
 pub fn mark_block(entry: u32) -> [u8; 256]
     ensures { result ≡ mark_bytes entry }
 {
-    let [k0, k1, k2, k3] = write32(entry);
-    let [c0, c1, c2, c3] = write32(4294967295 - entry);
+    let number: [u8; 4] = entry.to_little_endian();
+    let complement: [u8; 4] = (u32::MAX - entry).to_little_endian();
     let mut block = [0; 256];
-    block[0] = k0;
-    block[1] = k1;
-    block[2] = k2;
-    block[3] = k3;
-    block[4] = c0;
-    block[5] = c1;
-    block[6] = c2;
-    block[7] = c3;
+    block[..4].copy_from_slice(&number);
+    block[4..8].copy_from_slice(&complement);
     block
 }
 
@@ -35,12 +29,9 @@ pub fn is_good_mark(block: &[u8; 256], entry: u32) -> bool
 pub fn record_block(entry: u32, x: &Instruction) -> [u8; 256]
     ensures { result ≡ record_bytes entry x.now }
 {
-    let [k0, k1, k2, k3] = write32(entry);
+    let number: [u8; 4] = entry.to_little_endian();
     let mut block = [0; 256];
-    block[0] = k0;
-    block[1] = k1;
-    block[2] = k2;
-    block[3] = k3;
+    block[..4].copy_from_slice(&number);
     block[4] = 1;
     block[8..40].copy_from_slice(&x.to_bytes());
     block
@@ -52,10 +43,10 @@ pub fn read_record(block: &[u8; 256], entry: u32) -> Result<Instruction, Refusal
     ensures exact { ReadsRecord entry block.now result }
 {
     let [k0, k1, k2, k3, n0, n1, n2, n3, ..] = block;
-    if read32([*k0, *k1, *k2, *k3]) != entry {
+    if u32::from_little_endian([*k0, *k1, *k2, *k3]) != entry {
         return Err(Refusal::Malformed);
     }
-    if read32([*n0, *n1, *n2, *n3]) != 1 {
+    if u32::from_little_endian([*n0, *n1, *n2, *n3]) != 1 {
         return Err(Refusal::Malformed);
     }
     if !all_zero(&block[40..]) {

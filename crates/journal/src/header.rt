@@ -5,9 +5,12 @@ ghost use Rattle.journal.specs.Reading.{ReadsHeader};
 
 use crate::zeros::all_zero;
 use answers::Refusal;
-use little_endian::{read32, write32};
+use little_endian::LittleEndian;
 
-#[derive(Clone, Copy)]
+// As many pairs of a record and a mark as a journal may have.
+pub const MOST_PAIRS: u32 = 32767;
+
+#[derive(Clone, Copy, Debug, PartialEq, Eq)]
 pub struct Header {
     pub register: u8,
     pub cash: u8,
@@ -18,16 +21,13 @@ impl Header {
     pub fn to_block(self) -> [u8; 256]
         ensures { result ≡ header_bytes self }
     {
-        let [n0, n1, n2, n3] = write32(self.pairs);
+        let pairs: [u8; 4] = self.pairs.to_little_endian();
         let mut block = [0; 256];
         block[0] = 1;
         block[1] = 2;
         block[2] = self.register;
         block[3] = self.cash;
-        block[4] = n0;
-        block[5] = n1;
-        block[6] = n2;
-        block[7] = n3;
+        block[4..8].copy_from_slice(&pairs);
         block
     }
 
@@ -36,14 +36,11 @@ impl Header {
         ensures value { result ≡ header_in block.now }
         ensures exact { ReadsHeader block.now result }
     {
-        let [edition, books, register, cash, n0, n1, n2, n3, rest @ ..] = &block[..] else {
+        let [1, 2, register, cash, n0, n1, n2, n3, rest @ ..] = &block[..] else {
             return Err(Refusal::NotAHeader);
         };
-        if *edition != 1 || *books != 2 {
-            return Err(Refusal::NotAHeader);
-        }
-        let pairs = read32([*n0, *n1, *n2, *n3]);
-        if pairs < 1 || pairs > 32767 {
+        let pairs = u32::from_little_endian([*n0, *n1, *n2, *n3]);
+        if pairs < 1 || pairs > MOST_PAIRS {
             return Err(Refusal::NotAHeader);
         }
         if !all_zero(rest) {

@@ -5,10 +5,5 @@ ghost use Rattle.journal.specs.Blocks.{all_zero};
 pub(crate) fn all_zero(bytes: &[u8]) -> bool
     ensures { result ≡ all_zero bytes.now }
 {
-    for b in bytes {
-        if *b != 0 {
-            return false;
-        }
-    }
-    true
+    bytes.iter().all(|b| *b == 0)
 }

@@ -74,7 +74,7 @@ impl<R: Book, C: Book> Ledger<R, C> {
     pub fn judge(&self, x: &Instruction) -> Result<(), Fault>
         ensures { result ≡ verdict (rulebook R.Book.fixed C.Book.fixed) (standing_of R.Book.holdings C.Book.holdings self.now) x.now }
     {
-        let Some(kind) = Kind::from_code(x.kind) else {
+        let Ok(kind) = Kind::try_from(x.kind) else {
             return Err(Fault::plain(Refusal::UnknownKind));
         };
         match self.ruling(kind, x) {
@@ -91,7 +91,7 @@ impl<R: Book, C: Book> Ledger<R, C> {
         ensures kept { KeptIfRefused result (standing_of R.Book.holdings C.Book.holdings self.old) (standing_of R.Book.holdings C.Book.holdings self.new) }
         ensures table { StateTable }
     {
-        let Some(kind) = Kind::from_code(x.kind) else {
+        let Ok(kind) = Kind::try_from(x.kind) else {
             return Err(Fault::plain(Refusal::UnknownKind));
         };
         match self.ruling(kind, x) {

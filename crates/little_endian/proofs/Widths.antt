@@ -1,5 +1,5 @@
 -- LittleEndian numbers, once for every width. Assumes nothing.
-use Rattle.std.proofs.Common.{◌≡◌, ℕ, zero, suc, ◌+◌, ◌*◌, ◌/◌, ◌%◌, ◌^◌, ◌<◌, ◌≤◌, List, [], ◌∷◌, length, get_or, drop, refl, ap, ◌∙◌, div-lt_iff_lt-mul, pow-suc, arith, lit<, drop-cons}
+use Rattle.std.proofs.Common.{◌≡◌, ℕ, zero, suc, ◌+◌, ◌*◌, ◌/◌, ◌%◌, ◌^◌, ◌<◌, ◌≤◌, List, [], ◌∷◌, length, get_or, take, drop, refl, ap, ◌∙◌, div-lt_iff_lt-mul, pow-suc, arith, lit<, drop-cons}
 use native.Mathlib.Nat.{mod-add-div}
 use Rattle.std.proofs.lemmas.List.{drop_all}
 use Rattle.little_endian.specs.Little.{le, bytes, Bytes, part, EveryWidth}
@@ -18,8 +18,8 @@ bytes_le (b ∷ bs) h =
     let rest = bytes_le bs h.1 in
     rw (low, high, rest)
 
-pub every-width : EveryWidth
-every-width = record { written = le_bytes; read = bytes_le }
+pub every_width : EveryWidth
+every_width = record { written = le_bytes; read = bytes_le }
 
 part-drop : (w i : ℕ) (bs : List ℕ) → length bs ≡ i + w → drop i bs ≡ part i w bs
 part-drop zero i bs h = let l : length bs ≤ i = omega arith in drop_all i bs l
@@ -34,3 +34,11 @@ part-whole w bs h = part-drop w 0 bs (omega arith)
 -- a number that is read byte by byte is what the string means
 pub le-part : (w : ℕ) (bs : List ℕ) → length bs ≡ w → le bs ≡ le (part 0 w bs)
 le-part w bs h = ap le (part-whole w bs h)
+
+-- the w bytes from a place on, cut out
+pub part-slice : (w at : ℕ) (bs : List ℕ) → at + w ≤ length bs → take w (drop at bs) ≡ part at w bs
+part-slice zero at bs h = refl
+part-slice (suc w) at bs h =
+    let l : at < length bs = omega arith in
+    let next = part-slice w (suc at) bs (omega arith) in
+    ap (take (suc w)) (drop-cons bs at 0 l) ∙ ap (λ t. get_or bs at 0 ∷ t) next

@@ -5,7 +5,7 @@ mod table;
 
 ghost use Rattle.std.specs.Prelude.{◌≡◌};
 ghost use Rattle.book.specs.Holdings.{nothing};
-ghost use Rattle.book.specs.Rulings.{asked};
+ghost use Rattle.book.specs.Rulings.{asked, holding_at};
 ghost use Rattle.lots.specs.Owners.{lots_kind, free_of, blocked_of, at};
 ghost use Rattle.lots.specs.Meaning.{meaning};
 ghost use Rattle.lots.specs.Deeds;
@@ -13,32 +13,28 @@ ghost use Rattle.lots.specs.Deeds.{free-outside, blocked-outside};
 ghost use Rattle.std.proofs.Common.{rules};
 
 use answers::Refusal;
-use book::{Book, covers};
+use book::{ACCOUNTS, Book, Holding, covers};
 use table::Lot;
 pub use table::Lots;
-
-const ACCOUNTS: u16 = 64;
 
 const ITEMS: u16 = 256;
 
 impl Lot {
-    // How much of the lot an account has free: 1 or 0.
-    fn free_for(self, account: u16) -> u64
-        ensures { result ≡ free_of self account }
+    // How much of the lot an account has: 1 or 0.
+    fn held_by(self, account: u16) -> Holding
+        ensures free { result.free ≡ free_of self account }
+        ensures blocked { result.blocked ≡ blocked_of self account }
     {
         match self {
-            Lot::Free(owner) if owner == account => 1,
-            _ => 0,
-        }
-    }
-
-    // How much of the lot an account has blocked: 1 or 0.
-    fn blocked_for(self, account: u16) -> u64
-        ensures { result ≡ blocked_of self account }
-    {
-        match self {
-            Lot::Blocked(owner) if owner == account => 1,
-            _ => 0,
+            Lot::Free(owner) if owner == account => Holding {
+                free: 1,
+                blocked: 0,
+            },
+            Lot::Blocked(owner) if owner == account => Holding {
+                free: 0,
+                blocked: 1,
+            },
+            _ => Holding::default(),
         }
     }
 }
@@ -52,9 +48,9 @@ impl Lots {
         }
     }
 
-    // The lot, where the book has it and the account.
-    fn lot(&self, account: u16, item: u16) -> Result<Lot, Refusal>
-        ensures { result ≡ asked lots_kind (λ _ i. at self.now.lots i) account item }
+    // What an account has of an item, where the book has both.
+    fn held(&self, account: u16, item: u16) -> Result<Holding, Refusal>
+        ensures { result ≡ asked lots_kind (holding_at (meaning self.now)) account item }
     {
         if account >= ACCOUNTS {
             return Err(Refusal::NoAccount);
@@ -62,7 +58,7 @@ impl Lots {
         if item >= ITEMS {
             return Err(Refusal::NoItem);
         }
-        Ok(self.lots[item as usize])
+        Ok(self.lots[item as usize].held_by(account))
     }
 }
 
@@ -90,8 +86,8 @@ impl Book for Lots {
     }
 
     fn block(&mut self, account: u16, item: u16, quantity: u64) -> Result<(), Refusal> {
-        let free = self.free(account, item)?;
-        covers(free, quantity, Refusal::OverFree)?;
+        let held = self.held(account, item)?;
+        covers(held.free, quantity, Refusal::OverFree)?;
         self.lots[item as usize] = Lot::Blocked(account);
         Ok(())
     }
@@ -105,20 +101,18 @@ impl Book for Lots {
         if to >= ACCOUNTS {
             return Err(Refusal::NoAccount);
         }
-        let blocked = self.blocked(from, item)?;
-        covers(blocked, quantity, Refusal::OverBlocked)?;
+        let held = self.held(from, item)?;
+        covers(held.blocked, quantity, Refusal::OverBlocked)?;
         self.lots[item as usize] = Lot::Free(to);
         Ok(())
     }
 
     fn free(&self, account: u16, item: u16) -> Result<u64, Refusal> {
-        let lot = self.lot(account, item)?;
-        Ok(lot.free_for(account))
+        self.held(account, item).map(|held| held.free)
     }
 
     fn blocked(&self, account: u16, item: u16) -> Result<u64, Refusal> {
-        let lot = self.lot(account, item)?;
-        Ok(lot.blocked_for(account))
+        self.held(account, item).map(|held| held.blocked)
     }
 
     fn items(&self) -> u16 {

@@ -9,7 +9,7 @@ ghost use Rattle.rulebook.specs.Rules.{turned_trade, about as about_trade};
 use answers::Fault;
 use instruction::{Instruction, Kind};
 
-#[derive(Clone, Copy)]
+#[derive(Clone, Copy, Debug, PartialEq, Eq)]
 pub enum State {
     Unentered,
     Entered,
@@ -20,7 +20,7 @@ pub enum State {
 }
 
 // The seller gives a quantity of an item, the buyer an amount of a currency.
-#[derive(Clone, Copy)]
+#[derive(Clone, Copy, Debug, PartialEq, Eq)]
 pub struct Terms {
     pub seller: u16,
     pub buyer: u16,
@@ -30,11 +30,11 @@ pub struct Terms {
     pub amount: u64,
 }
 
-impl Terms {
-    // The terms that an Enter states.
-    pub fn of(x: &Instruction) -> Terms
-        ensures { result ≡ terms_of x.now }
-    {
+// The terms that an Enter states.
+impl From<&Instruction> for Terms {
+    ghost from_gives = { λ x terms. terms ≡ terms_of x.now };
+
+    fn from(x: &Instruction) -> Terms {
         Terms {
             seller: x.account,
             buyer: x.counterparty,
@@ -46,7 +46,7 @@ impl Terms {
     }
 }
 
-#[derive(Clone, Copy)]
+#[derive(Clone, Copy, Debug, PartialEq, Eq)]
 pub struct Trade {
     pub state: State,
     pub terms: Terms,
@@ -66,21 +66,17 @@ impl Trade {
             _ => None,
         }
     }
+
     // The trade after an instruction of this kind, where its state lets it start: an Enter sets the terms.
     pub fn turned(&self, kind: Kind, x: &Instruction) -> Option<Trade>
         ensures { result ≡ turned_trade (Some kind) x.now self.now }
     {
         let state = self.next(kind)?;
-        match kind {
-            Kind::Enter => Some(Trade {
-                state,
-                terms: Terms::of(x),
-            }),
-            _ => Some(Trade {
-                state,
-                terms: self.terms,
-            }),
-        }
+        let terms = match kind {
+            Kind::Enter => Terms::from(x),
+            _ => self.terms,
+        };
+        Some(Trade { state, terms })
     }
 }
 
@@ -88,8 +84,8 @@ impl Trade {
 pub fn about(x: &Instruction, fault: Fault) -> Fault
     ensures { result ≡ about_trade x.now fault }
 {
-    match Kind::from_code(x.kind) {
-        Some(Kind::Enter | Kind::Earmark | Kind::Fund | Kind::Settle | Kind::Free) =>
+    match Kind::try_from(x.kind) {
+        Ok(Kind::Enter | Kind::Earmark | Kind::Fund | Kind::Settle | Kind::Free) =>
             fault.of_trade(x.trade),
         _ => fault,
     }

@@ -269,7 +269,7 @@ fn blank(kind: Kind) -> Instruction
     ensures { result ≡ on_trade kind 0 }
 {
     Instruction {
-        kind: kind.code(),
+        kind: kind.into(),
         account: 0,
         counterparty: 0,
         item: 0,
@@ -327,7 +327,7 @@ fn read_enter(tokens: &mut Tokens) -> Option<Instruction>
     if !tokens.is_done() {
         return None;
     }
-    let kind = Kind::Enter.code();
+    let kind = Kind::Enter.into();
     Some(Instruction {
         kind,
         account,

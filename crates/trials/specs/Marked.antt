@@ -1,7 +1,6 @@
 -- The trials whose results are proved, a row each. Assumes nothing.
-use Rattle.std.specs.Prelude.{◌≡◌, ℕ, ◌<◌, List, ◌∷◌, ◌++◌, replicate, Ok, Err, Result}
-use Rattle.answers.specs.declared.Refusal.{Refusal}
-use Rattle.answers.specs.Numbers.{number_of}
+use Rattle.std.specs.Prelude.{◌≡◌, ℕ, ◌<◌, List, ◌∷◌, ◌++◌, replicate}
+use Rattle.answers.specs.Numbers.{answer_number}
 use Rattle.instruction.specs.declared.Kind.{Kind}
 use Rattle.instruction.specs.declared.Kind.TheVariants.{Enter, Earmark, Settle}
 use Rattle.instruction.specs.declared.Instruction.{Instruction}
@@ -14,11 +13,6 @@ use Rattle.lots.specs.Owners.{lots_kind}
 use Rattle.rulebook.specs.declared.State.TheVariants.{Earmarked}
 use Rattle.rulebook.specs.Rules.{Rulebook, Standing, empty, answer}
 use Rattle.trials.specs.declared.Outcomes.{Outcomes}
-
--- 0 for yes, else the refusal's number
-abbrev pub number : Result (Unit {0}) Refusal → ℕ
-number (Ok u) = 0
-number (Err r) = number_of r
 
 -- an instruction of a kind that uses its trade only
 abbrev pub on_trade : Kind → ℕ → Instruction
@@ -34,18 +28,18 @@ earmark7 = 4 ∷ (replicate 11 0 ++ (7 ∷ replicate 19 0))
 
 pub record MarkedTrials : Type 0 where
   -- fresh balances: to block 1 is more than is free
-  pub block-of-nothing : (a i : ℕ) → a < 64 → i < 16 → number (ruling balances_kind nothing (blocking a i 1)) ≡ 25
+  pub block-of-nothing : (a i : ℕ) → a < 64 → i < 16 → answer_number (ruling balances_kind nothing (blocking a i 1)) ≡ 25
   -- a credit up to the ceiling is accepted, and 1 more to any account is not
-  pub credit-to-ceiling : (a i : ℕ) → a < 64 → i < 16 → number (ruling balances_kind nothing (crediting a i 1000000000000)) ≡ 0
-  pub credit-past-ceiling : (a b i : ℕ) → a < 64 → b < 64 → i < 16 → number (ruling balances_kind (apply nothing (crediting a i 1000000000000)) (crediting b i 1)) ≡ 24
+  pub credit-to-ceiling : (a i : ℕ) → a < 64 → i < 16 → answer_number (ruling balances_kind nothing (crediting a i 1000000000000)) ≡ 0
+  pub credit-past-ceiling : (a b i : ℕ) → a < 64 → b < 64 → i < 16 → answer_number (ruling balances_kind (apply nothing (crediting a i 1000000000000)) (crediting b i 1)) ≡ 24
   -- fresh lots: one of a lot, never two
-  pub credit-of-a-lot : (a i : ℕ) → a < 64 → i < 256 → number (ruling lots_kind nothing (crediting a i 1)) ≡ 0
-  pub credit-of-two : (a i : ℕ) → a < 64 → i < 256 → number (ruling lots_kind nothing (crediting a i 2)) ≡ 24
+  pub credit-of-a-lot : (a i : ℕ) → a < 64 → i < 256 → answer_number (ruling lots_kind nothing (crediting a i 1)) ≡ 0
+  pub credit-of-two : (a i : ℕ) → a < 64 → i < 256 → answer_number (ruling lots_kind nothing (crediting a i 2)) ≡ 24
   pub earmark-bytes : bytes_of (on_trade Earmark 7) ≡ earmark7
   -- seller 70 and buyer 70: the same account, before there being no such account
-  pub same-parties : (h : Rulebook) (item currency trade quantity amount : ℕ) → trade < 128 → number (answer h empty (entering 70 70 item currency trade quantity amount)) ≡ 33
+  pub same-parties : (h : Rulebook) (item currency trade quantity amount : ℕ) → trade < 128 → answer_number (answer h empty (entering 70 70 item currency trade quantity amount)) ≡ 33
   -- a trade that is earmarked and not funded is not settled
-  pub settle-too-early : (h : Rulebook) (s : Standing) (t : ℕ) → t < 128 → s.state t ≡ Earmarked → number (answer h s (on_trade Settle t)) ≡ 35
+  pub settle-too-early : (h : Rulebook) (s : Standing) (t : ℕ) → t < 128 → s.state t ≡ Earmarked → answer_number (answer h s (on_trade Settle t)) ≡ 35
 
 -- what the code answers to one trial of each row that a fresh book, ledger or instruction can show
 abbrev pub expected : Outcomes

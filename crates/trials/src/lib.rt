@@ -2,9 +2,13 @@
 #![tactic(auto)]
 
 ghost use Rattle.std.specs.Prelude.{◌≡◌};
-ghost use Rattle.trials.specs.Marked.{number as number_in, earmark7, expected, MarkedTrials};
+ghost use Rattle.answers.specs.Numbers.{answer_number};
+ghost use Rattle.book.specs.Holdings.{nothing, crediting};
+ghost use Rattle.book.specs.Rulings.{ruling};
+ghost use Rattle.lots.specs.Owners.{lots_kind};
+ghost use Rattle.trials.specs.Marked.{earmark7, expected, MarkedTrials};
 
-use answers::Refusal;
+use answers::answer_number;
 use balances::Balances;
 use book::Book;
 use instruction::{Instruction, Kind};
@@ -22,20 +26,11 @@ pub struct Outcomes {
     pub same_parties: u8,
 }
 
-fn number(answer: Result<(), Refusal>) -> u8
-    ensures { result ≡ number_in answer }
-{
-    match answer {
-        Ok(()) => 0,
-        Err(refusal) => refusal.number(),
-    }
-}
-
 fn block_of_nothing() -> u8
     ensures { result ≡ 25 }
 {
     let mut book = Balances::new();
-    number(book.block(0, 0, 1))
+    answer_number(book.block(0, 0, 1))
 }
 
 // A credit of the whole ceiling, and then of 1 more.
@@ -43,38 +38,26 @@ fn credits_at_ceiling() -> (u8, u8)
     ensures { result ≡ (0, 24) }
 {
     let mut book = Balances::new();
-    let whole = number(book.credit(0, 0, 1_000_000_000_000));
-    let more = number(book.credit(0, 0, 1));
+    let whole = answer_number(book.credit(0, 0, 1_000_000_000_000));
+    let more = answer_number(book.credit(0, 0, 1));
     (whole, more)
 }
 
-fn credit_of_a_lot() -> u8
-    ensures { result ≡ 0 }
+// A credit of so much of a fresh lot.
+fn credit_of(quantity: u64) -> u8
+    ensures { result ≡ answer_number (ruling lots_kind nothing (crediting 0 0 quantity)) }
 {
     let mut book = Lots::new();
-    number(book.credit(0, 0, 1))
-}
-
-fn credit_of_two() -> u8
-    ensures { result ≡ 24 }
-{
-    let mut book = Lots::new();
-    number(book.credit(0, 0, 2))
+    answer_number(book.credit(0, 0, quantity))
 }
 
 fn earmark_bytes() -> [u8; 32]
     ensures { result ≡ earmark7 }
 {
-    let kind = Kind::Earmark.code();
     let x = Instruction {
-        kind,
-        account: 0,
-        counterparty: 0,
-        item: 0,
-        currency: 0,
+        kind: Kind::Earmark.into(),
         trade: 7,
-        quantity: 0,
-        amount: 0,
+        ..Instruction::default()
     };
     x.to_bytes()
 }
@@ -83,16 +66,14 @@ fn same_parties() -> u8
     ensures { result ≡ 33 }
 {
     let ledger = Ledger::new(Balances::new(), Balances::new());
-    let kind = Kind::Enter.code();
     let x = Instruction {
-        kind,
+        kind: Kind::Enter.into(),
         account: 70,
         counterparty: 70,
-        item: 0,
-        currency: 0,
         trade: 7,
         quantity: 100,
         amount: 5000,
+        ..Instruction::default()
     };
     match ledger.judge(&x) {
         Ok(()) => 0,
@@ -110,8 +91,8 @@ pub fn marked_trials() -> Outcomes
         block_of_nothing: block_of_nothing(),
         credit_to_ceiling,
         credit_past_ceiling,
-        credit_of_a_lot: credit_of_a_lot(),
-        credit_of_two: credit_of_two(),
+        credit_of_a_lot: credit_of(1),
+        credit_of_two: credit_of(2),
         earmark_bytes: earmark_bytes(),
         same_parties: same_parties(),
     }

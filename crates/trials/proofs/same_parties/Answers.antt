@@ -13,7 +13,7 @@ returns-in-Err c =
     let fault = c.in-Err.fault in
     let e : Err fault ≡ Err (on_trade SameParties 7) =
     c.in-Err.ensures
-    ∙ ap (λ s. verdict h s (record { kind = c.code-kind.result; account = 70; counterparty = 70; item = 0; currency = 0; trade = 7; quantity = 100; amount = 5000 })) c.new-ledger.ensures
-    ∙ ap (λ k. verdict h empty (record { kind = k; account = 70; counterparty = 70; item = 0; currency = 0; trade = 7; quantity = 100; amount = 5000 })) c.code-kind.ensures.value in
+    ∙ ap (λ s. verdict h s (record { kind = c.into-kind.result; account = 70; counterparty = 70; item = 0; currency = 0; trade = 7; quantity = 100; amount = 5000 })) c.new-ledger.ensures
+    ∙ ap (λ k. verdict h empty (record { kind = k; account = 70; counterparty = 70; item = 0; currency = 0; trade = 7; quantity = 100; amount = 5000 })) c.into-kind.ensures.value in
     let f : fault ≡ on_trade SameParties 7 = cc in
     c.number.ensures ∙ ap (λ f. number_of f.refusal) f

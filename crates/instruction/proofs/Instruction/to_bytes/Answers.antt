@@ -5,13 +5,13 @@ use Rattle.instruction.proofs.Instruction.to_bytes.Goals as goal
 
 pub returns : goal.returns
 returns c =
-    let a = c.write16.ensures in
-    let b = c.write16-2.ensures in
-    let i = c.write16-3.ensures in
-    let u = c.write16-4.ensures in
-    let t = c.write32.ensures in
-    let q = c.write64.ensures in
-    let m = c.write64-2.ensures in
+    let a = c.to_little_endian.ensures in
+    let b = c.to_little_endian-2.ensures in
+    let i = c.to_little_endian-3.ensures in
+    let u = c.to_little_endian-4.ensures in
+    let t = c.to_little_endian-5.ensures in
+    let q = c.to_little_endian-6.ensures in
+    let m = c.to_little_endian-7.ensures in
     let f : Fit c.args.self = record { kind = search rules; account = search rules; counterparty = search rules; item = search rules; currency = search rules; trade = search rules; quantity = search rules; amount = search rules } in
     let e : _ ≡ bytes_of c.args.self = λ k. c.args.self.kind ∷ 0 ∷ get_or (a k) 0 0 ∷ get_or (a k) 1 0 ∷ get_or (b k) 0 0 ∷ get_or (b k) 1 0 ∷ get_or (i k) 0 0 ∷ get_or (i k) 1 0
     ∷ get_or (u k) 0 0 ∷ get_or (u k) 1 0 ∷ 0 ∷ 0 ∷ get_or (t k) 0 0 ∷ get_or (t k) 1 0 ∷ get_or (t k) 2 0 ∷ get_or (t k) 3 0
