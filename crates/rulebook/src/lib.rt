@@ -85,8 +85,7 @@ pub fn about(x: &Instruction, fault: Fault) -> Fault
     ensures { result ≡ about_trade x.now fault }
 {
     match Kind::try_from(x.kind) {
-        Ok(Kind::Enter | Kind::Earmark | Kind::Fund | Kind::Settle | Kind::Free) =>
-            fault.of_trade(x.trade),
-        _ => fault,
+        Ok(Kind::Issue | Kind::PayIn) | Err(_) => fault,
+        Ok(_) => fault.of_trade(x.trade),
     }
 }

@@ -1,4 +1,4 @@
-use Rattle.std.proofs.Common.{◌≡◌, ◌+◌, ◌-◌, ℕ, take, drop, ap, ◌∙◌, arith}
+use Rattle.std.proofs.Common.{◌≡◌, ◌+◌, ◌-◌, take, drop, ap, ◌∙◌, arith}
 use Rattle.little_endian.specs.Little.{le}
 use Rattle.little_endian.proofs.Widths.{part-slice}
 use Rattle.instruction.proofs.field.Goals as goal
