@@ -52,10 +52,13 @@ pub trait Book {
         ensures answer { result ≡ ruling fixed (holdings self.old) (blocking account item quantity) }
         ensures after { holdings self.new ≡ outcome fixed (holdings self.old) (blocking account item quantity) };
 
-    // From blocked back to free.
+    // From blocked back to free, which is a transfer of an account to itself.
     fn release(&mut self, account: u16, item: u16, quantity: u64) -> Result<(), Refusal>
         ensures answer { result ≡ ruling fixed (holdings self.old) (releasing account item quantity) }
-        ensures after { holdings self.new ≡ outcome fixed (holdings self.old) (releasing account item quantity) };
+        ensures after { holdings self.new ≡ outcome fixed (holdings self.old) (releasing account item quantity) }
+    {
+        self.transfer(account, account, item, quantity)
+    }
 
     // From the blocked amount of `from` to the free amount of `to`, which may be the same account.
     fn transfer(&mut self, from: u16, to: u16, item: u16, quantity: u64) -> Result<(), Refusal>

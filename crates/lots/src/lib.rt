@@ -92,11 +92,6 @@ impl Book for Lots {
         Ok(())
     }
 
-    // A release is a transfer of an account to itself.
-    fn release(&mut self, account: u16, item: u16, quantity: u64) -> Result<(), Refusal> {
-        self.transfer(account, account, item, quantity)
-    }
-
     fn transfer(&mut self, from: u16, to: u16, item: u16, quantity: u64) -> Result<(), Refusal> {
         if to >= ACCOUNTS {
             return Err(Refusal::NoAccount);
