@@ -1,18 +1,14 @@
 -- The engine that an opening gives.
-use Rattle.std.proofs.Common.{◌≡◌, ℕ, [], None, Result, sym, ap, ◌∙◌, subst}
+use Rattle.std.proofs.Common.{◌≡◌, ℕ, None, Result, ap, ◌∙◌}
 use Rattle.answers.specs.declared.Fault.{Fault}
 use Rattle.rulebook.specs.Terms.{securities, cash}
-use Rattle.rulebook.specs.Rules.{Rulebook, Standing, empty, start, Reached}
+use Rattle.rulebook.specs.Rules.{Rulebook, Standing, empty}
 use Rattle.device.specs.Medium.{Medium}
 use Rattle.engine.specs.declared.engine.Mode.TheVariants.{Refused}
 use Rattle.engine.specs.declared.opening.Recovered.{Recovered}
 use Rattle.engine.specs.View.{View}
 use Rattle.engine.specs.Recovery.{with_calls, Scan}
 use Rattle.engine.specs.Opening.{refused_as, scanned_as, scanned_on, opened_on, opened, header_answer, after_header}
-
--- no instruction leads to the empty standing
-pub reached-empty : (h : Rulebook) (s : Standing) → s ≡ empty → Reached h s
-reached-empty h s e = subst (Reached h) (sym e) ([], start)
 
 pub cleared : (f : Fault) (m : Medium) (s : Standing) → s ≡ empty → ◌≡◌ {A = View} (record { mode = Refused f; medium = m; standing = s; pairs = 0; found = 0; last = None; count = 0 }) (refused_as f m)
 cleared f m s e = ap (λ (z : Standing). record { mode = Refused f; medium = m; standing = z; pairs = 0; found = 0; last = None; count = 0 }) e

@@ -2,7 +2,7 @@
 use Rattle.std.proofs.Common.{◌≡◌, ℕ, ◌+◌, ◌-◌, ◌<◌, ◌≤◌, Some, None, Ok, Option, Result, sym, refl, ap, ◌∙◌, add-one, arith}
 use Rattle.answers.specs.declared.Fault.{Fault}
 use Rattle.instruction.specs.declared.Instruction.{Instruction}
-use Rattle.rulebook.specs.Rules.{Rulebook, Standing, effect, Reached}
+use Rattle.rulebook.specs.Rules.{Rulebook, Standing, effect}
 use Rattle.device.specs.Medium.{Medium}
 use Rattle.engine.specs.Recovery.{with_calls, drained, entry_answer, turn, ended, scan}
 
@@ -20,11 +20,10 @@ pub record Turn (h : Rulebook) (pairs : ℕ) (m₀ : Medium) (s₀ : Standing) (
   pub within : k ≤ pairs
   pub same : scan h pairs m₀ 0 s₀ None ≡ scan h (pairs - k) m k s last
   pub medium : m ≡ with_calls m.left m₀
-  pub reached : Reached h s
 
 module _ (h : Rulebook) (pairs : ℕ) (m₀ : Medium) (s₀ : Standing) where
-  pub first-turn : Reached h s₀ → Turn h pairs m₀ s₀ 0 m₀ s₀ None
-  first-turn r = record { within = omega arith; same = (let e : pairs ≡ pairs - 0 = omega arith in ap (λ n. scan h n m₀ 0 s₀ None) e); medium = refl; reached = r }
+  pub first-turn : Turn h pairs m₀ s₀ 0 m₀ s₀ None
+  first-turn = record { within = omega arith; same = (let e : pairs ≡ pairs - 0 = omega arith in ap (λ n. scan h n m₀ 0 s₀ None) e); medium = refl }
 
   module _ (k : ℕ) (m : Medium) (s : Standing) (last : Option Instruction) (t : Turn h pairs m₀ s₀ k m s last) where
     -- all entries are used
@@ -41,12 +40,11 @@ module _ (h : Rulebook) (pairs : ℕ) (m₀ : Medium) (s₀ : Standing) where
       pub device-after : (n : ℕ) (m' : Medium) → m' ≡ drained n m → m' ≡ with_calls (m.left - n) m₀
       device-after n m' e = e ∙ ap (with_calls (m.left - n)) t.medium
 
-    pub next-turn : (x : Instruction) (m' : Medium) (s' : Standing) → k < pairs → Ok (Some x) ≡ entry_answer h m s k → m' ≡ drained 2 m → s' ≡ effect s x → Reached h s' → Turn h pairs m₀ s₀ (k + 1) m' s' (Some x)
-    next-turn x m' s' l is em es r =
+    pub next-turn : (x : Instruction) (m' : Medium) (s' : Standing) → k < pairs → Ok (Some x) ≡ entry_answer h m s k → m' ≡ drained 2 m → s' ≡ effect s x → Turn h pairs m₀ s₀ (k + 1) m' s' (Some x)
+    next-turn x m' s' l is em es =
         let left : m'.left ≡ m.left - 2 = ap (λ (d : Medium). d.left) em in
         record {
           within = omega arith;
           same = turned l (Ok (Some x)) is ∙ ap (λ d. scan h (pairs - (k + 1)) d (k + 1) (effect s x) (Some x)) (sym em) ∙ ap (λ z. scan h (pairs - (k + 1)) m' (k + 1) z (Some x)) (sym es);
           medium = device-after l (Ok (Some x)) is 2 m' em ∙ ap (λ n. with_calls n m₀) (sym left);
-          reached = r;
         }

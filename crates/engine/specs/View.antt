@@ -1,7 +1,6 @@
 -- What an engine is, by the meaning of its parts. Assumes nothing.
 use Rattle.std.specs.Prelude.{ℕ, Option}
 use Rattle.instruction.specs.declared.Instruction.{Instruction}
-use Rattle.book.specs.Holdings.{Holdings}
 use Rattle.rulebook.specs.Rules.{Standing}
 use Rattle.ledger.specs.View.{standing_of}
 use Rattle.device.specs.Medium.{Medium}
@@ -23,6 +22,6 @@ pub record View : Type 0 where
   -- entries that stand
   pub count : ℕ
 
-abbrev pub view : {D R C : Type 0} {d : device.Ghosts D} {r : book.Ghosts R} {c : book.Ghosts C} → (D → Medium) → (R → Holdings) → (C → Holdings) → Engine D R C d r c → View
-view m r c e =
-    record { mode = e.mode; medium = m e.device; standing = standing_of r c e.ledger; pairs = e.pairs; found = e.found; last = e.last; count = e.count }
+abbrev pub view : {D R C : Type 0} {d : device.Ghosts D} {r : book.Ghosts R} {c : book.Ghosts C} → (D → Medium) → Engine D R C d r c → View
+view m e =
+    record { mode = e.mode; medium = m e.device; standing = standing_of e.ledger; pairs = e.pairs; found = e.found; last = e.last; count = e.count }

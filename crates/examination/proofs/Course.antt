@@ -1,13 +1,10 @@
 -- A script on its way. Assumes nothing.
-use Rattle.std.proofs.Common.{◌≡◌, ℕ, zero, suc, ◌<◌, ◌≤◌, List, [], ◌∷◌, ◌++◌, length, take, drop, Ok, Err, Result, sym, refl, ap, ◌∙◌, subst, append_assoc, arith}
-use Rattle.answers.specs.declared.Refusal.{Refusal}
+use Rattle.std.proofs.Common.{◌≡◌, ℕ, zero, suc, ◌<◌, ◌≤◌, List, [], ◌∷◌, ◌++◌, length, take, drop, sym, refl, ap, ◌∙◌, subst, append_assoc, arith}
 use Rattle.rulebook.specs.Table.{before}
-use Rattle.rulebook.specs.Rules.{Rulebook, Standing, empty, start, Reached}
+use Rattle.rulebook.specs.Rules.{Rulebook, Standing, empty}
 use Rattle.rulebook.specs.Law.{Balanced}
 use Rattle.rulebook.specs.Words.{standing_after}
 use Rattle.std.proofs.lemmas.List.{append-nil, take_all}
-use Rattle.script.specs.declared.Request.{Request}
-use Rattle.script.specs.declared.Request.TheVariants.{Instruct, Register, Cash}
 use Rattle.script.specs.Requests.{request_in}
 use Rattle.script.specs.Feeds.{lines_of}
 use Rattle.examination.specs.declared.Answer.{Answer}
@@ -15,27 +12,19 @@ use Rattle.examination.specs.declared.Stop.TheVariants.{NoMemory}
 use Rattle.examination.specs.Replies.{reply, moved}
 use Rattle.examination.specs.Key.{answers_to, end_of, tally, KeyLaw, Keyed, Stopped}
 use Rattle.examination.proofs.Keys.{answers-count, ends, balanced, key-law}
-use Rattle.rulebook.proofs.Givens.{reached-step}
 
 -- how far a script has come: these answers are written, the ledger stands at s, and the rest is still to be read
 pub record Going (h : Rulebook) (script : List ℕ) (answers : List Answer) (s : Standing) (rest : List ℕ) : Type 0 where
-  pub reached : Reached h s
   pub answers-go : answers ++ answers_to h s (lines_of rest) ≡ answers_to h empty (lines_of script)
   pub line : ℕ
   pub left : lines_of rest ≡ drop line (lines_of script)
   pub stands : s ≡ end_of h empty (take line (lines_of script))
 
 module _ (h : Rulebook) where
-  moves-on : (s : Standing) (q : Result Request Refusal) → Reached h s → Reached h (moved h s q)
-  moves-on s (Ok (Instruct x)) z = reached-step h s x z
-  moves-on s (Ok (Register p)) z = z
-  moves-on s (Ok (Cash p)) z = z
-  moves-on s (Err r) z = z
-
   pub going_start : (script : List ℕ) (s : Standing) → s ≡ empty → Going h script [] s script
   going_start script s e =
       subst (λ z. Going h script [] z script) (sym e)
-      (record { reached = ([], start); answers-go = refl; line = 0; left = refl; stands = refl })
+      (record { answers-go = refl; line = 0; left = refl; stands = refl })
 
   -- the lines before the next one, with it
   end_more : (ls : List (List ℕ)) (n : ℕ) (s : Standing) (l : List ℕ) (rest : List (List ℕ)) → l ∷ rest ≡ drop n ls → end_of h s (take (suc n) ls) ≡ moved h (end_of h s (take n ls)) (request_in l)
@@ -51,12 +40,10 @@ module _ (h : Rulebook) where
   left-more (m ∷ ls) (suc n) l rest e = left-more ls n l rest e
 
   pub going_more : (script : List ℕ) (old new : List Answer) (a : Answer) (s t : Standing) (rest more-rest l : List ℕ) → Going h script old s rest → lines_of rest ≡ l ∷ lines_of more-rest
-      → a ≡ reply h s (request_in l) → (Reached h s → t ≡ moved h s (request_in l)) → new ≡ old ++ (a ∷ []) → Going h script new t more-rest
+      → a ≡ reply h s (request_in l) → t ≡ moved h s (request_in l) → new ≡ old ++ (a ∷ []) → Going h script new t more-rest
   going_more script old new a s t rest more-rest l g e ea et en =
       let q = request_in l in
-      let at = et g.reached in
-      subst (λ z. Going h script new z more-rest) (sym at) (record {
-        reached = moves-on s q g.reached;
+      subst (λ z. Going h script new z more-rest) (sym et) (record {
         answers-go = ap (λ z. z ++ answers_to h (moved h s q) (lines_of more-rest)) (en ∙ ap (λ z. old ++ (z ∷ [])) ea)
             ∙ append_assoc old (reply h s q ∷ []) (answers_to h (moved h s q) (lines_of more-rest))
             ∙ ap (λ z. old ++ answers_to h s z) (sym e) ∙ g.answers-go;

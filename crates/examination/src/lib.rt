@@ -2,7 +2,6 @@
 #![tactic(auto)]
 
 ghost use Rattle.std.specs.Prelude.{◌≡◌, Ok, Err};
-ghost use Rattle.rulebook.specs.Rules.{Reached};
 ghost use Rattle.ledger.specs.View.{rulebook, standing_of};
 ghost use Rattle.script.specs.Requests.{request_in};
 ghost use Rattle.script.specs.Feeds.{lines_of};
@@ -48,9 +47,9 @@ fn held(answer: Result<Holding, Refusal>) -> Answer
 
 // Reads one line and does what it asks for.
 pub fn answer_line<R: Book, C: Book>(ledger: &mut Ledger<R, C>, line: &[u8]) -> Answer
-    ensures answer { result ≡ reply (rulebook R.Book.fixed C.Book.fixed) (standing_of R.Book.holdings C.Book.holdings ledger.old) (request_in line.now) }
-    ensures after { Reached (rulebook R.Book.fixed C.Book.fixed) (standing_of R.Book.holdings C.Book.holdings ledger.old) → standing_of R.Book.holdings C.Book.holdings ledger.new ≡ moved (rulebook R.Book.fixed C.Book.fixed) (standing_of R.Book.holdings C.Book.holdings ledger.old) (request_in line.now) }
-    ensures kept { KeptUnlessDone result (standing_of R.Book.holdings C.Book.holdings ledger.old) (standing_of R.Book.holdings C.Book.holdings ledger.new) }
+    ensures answer { result ≡ reply (rulebook R.fixed C.fixed) (standing_of ledger.old) (request_in line.now) }
+    ensures after { standing_of ledger.new ≡ moved (rulebook R.fixed C.fixed) (standing_of ledger.old) (request_in line.now) }
+    ensures kept { KeptUnlessDone result (standing_of ledger.old) (standing_of ledger.new) }
 {
     match read_line(line) {
         Ok(Request::Instruct(x)) => match ledger.instruct(&x) {
@@ -70,7 +69,7 @@ pub fn answer_script<R: Book, C: Book>(
     ledger: &mut Ledger<R, C>,
     script: &[u8],
 ) -> Result<Vec<Answer>, Stop>
-    ensures { elim result [ Ok v ↦ Keyed (rulebook R.Book.fixed C.Book.fixed) (standing_of R.Book.holdings C.Book.holdings ledger.new) script.now v.items | Err stop ↦ Stopped (rulebook R.Book.fixed C.Book.fixed) (standing_of R.Book.holdings C.Book.holdings ledger.old) (standing_of R.Book.holdings C.Book.holdings ledger.new) script.now stop ] }
+    ensures { elim result [ Ok v ↦ Keyed (rulebook R.fixed C.fixed) (standing_of ledger.new) script.now v.items | Err stop ↦ Stopped (rulebook R.fixed C.fixed) (standing_of ledger.old) (standing_of ledger.new) script.now stop ] }
 {
     if script.len() > LONGEST {
         return Err(Stop::Refused(Refusal::InputTooLong));

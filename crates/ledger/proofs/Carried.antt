@@ -1,25 +1,29 @@
 -- The code's carrying out is the rules' effect. Assumes nothing.
-use Rattle.std.proofs.Common.{◌≡◌, ℕ, ◌<◌, Bool, true, false, cond, eqb, leb, List, length, get_or, set, Some, None, Ok, Result, sym, refl, ap, ◌∙◌, subst, ⊎_elim, arith}
+use Rattle.std.proofs.Common.{◌≡◌, ℕ, ◌<◌, Bool, true, false, cond, eqb, leb, List, length, get_or, set, Some, None, Ok, Err, Result, sym, refl, ap, ◌∙◌, subst, ⊎_elim, arith}
 use Rattle.std.proofs.lemmas.List.{get_or-set_same, get_or-set_other}
 use Rattle.std.proofs.lemmas.Bool.{eqb-true, eq-eqb, ne_eqb, cases_eq, cases_Bool, cond-true, cond-false, lt-leb}
 use Rattle.answers.specs.declared.Refusal.{Refusal}
+use Rattle.answers.specs.declared.Fault.{Fault}
 use Rattle.instruction.specs.declared.Kind.TheVariants.{Issue, PayIn, Enter, Earmark, Fund, Settle, Free}
 use Rattle.instruction.specs.declared.Instruction.{Instruction}
 use Rattle.instruction.specs.Kinds.{kind_at}
 use Rattle.book.specs.Holdings.{Holdings}
-use Rattle.book.specs.Rulings.{first, outcome}
+use Rattle.book.specs.Rulings.{first, outcome, on_ok}
 use Rattle.rulebook.specs.declared.State.{State}
 use Rattle.rulebook.specs.declared.State.TheVariants.{Entered, Earmarked, Funded, Settled, Freed}
 use Rattle.rulebook.specs.declared.Terms.{Terms}
 use Rattle.rulebook.specs.declared.Trade.{Trade}
 use Rattle.rulebook.specs.Table.{Act, after, starts, next}
 use Rattle.rulebook.specs.Terms.{terms_of, securities, cash}
-use Rattle.rulebook.specs.Rules.{Rulebook, Standing, all_checks, answer_as, answer, at, turned, is_enter, terms_after, deed, effect, Reached}
-use Rattle.ledger.specs.View.{standing}
+use Rattle.rulebook.specs.Rules.{Rulebook, Standing, all_checks, answer, with_trade, verdict, at, turned, is_enter, terms_after, deed, effect, Reached}
+use Rattle.rulebook.specs.Law.{Given}
+use Rattle.ledger.specs.declared.parts.Parts.{Parts}
+use Rattle.ledger.specs.View.{standing, standing_in}
 use Rattle.ledger.specs.Rows.{blank, state_at, terms_at, put, rows_after}
 use Rattle.rulebook.proofs.Checks.{right}
 use Rattle.ledger.proofs.Views.{standing-same}
 use Rattle.rulebook.proofs.Carries.{carried-out}
+use Rattle.rulebook.proofs.Givens.{given, accepted}
 use Rattle.book.proofs.Accepted.{outcome-ok}
 
 -- where a kind of a trade may start, the table leads on
@@ -113,6 +117,26 @@ carried h r c r' c' rows rows' x k kk whole (xs, run) ok er ec e =
     (λ u. ap (λ z. state_at z u) e ∙ tr.states u ∙ ap (λ k. turned (after k) (state_at rows) x.trade u) (sym kk))
     (λ u. ap (λ z. terms_at z u) e ∙ tr.terms u ∙ ap (λ k. terms_after (is_enter k) (terms_at rows) x u) (sym kk))
 
--- the answer by the kind that the kind byte says
-pub answer-as : (h : Rulebook) (s : Standing) (x : Instruction) (k : Act) (r : Result (Unit {0}) Refusal) → k ≡ kind_at x.kind → r ≡ answer_as h k s x → answer h s x ≡ r
-answer-as h s x k r e a = ap (λ k. answer_as h k s x) (sym e) ∙ sym a
+-- an answer with its trade is a yes where the answer is, and a refused instruction leaves all as it was
+pub accepts : (x : Instruction) (r : Result (Unit {0}) Refusal) → with_trade x r ≡ Ok tt → r ≡ Ok tt
+accepts x (Ok u) e = refl
+accepts x (Err r) e = cc
+
+unmoved : (s t : Standing) (x : Instruction) (f : Fault) (r : Result (Unit {0}) Refusal) → with_trade x r ≡ Err f → on_ok r t s ≡ s
+unmoved s t x f (Ok u) e = cc
+unmoved s t x f (Err r) e = refl
+
+-- what giving an instruction leaves, where the rules refuse it
+pub given-refused : (h : Rulebook) (s : Standing) (x : Instruction) (f : Fault) → verdict h s x ≡ Err f → Reached h s → Given h s s x
+given-refused h s x f e z = given h s s x z (sym (unmoved s (effect s x) x f (answer h s x) e))
+
+-- and where they accept it
+pub given-carried : {R C : Type 0} (h : Rulebook) (r : R → Holdings) (c : C → Holdings) (p q : Parts R C) (x : Instruction) (k : Act)
+    → kind_at x.kind ≡ k → verdict h (standing_in r c p) x ≡ Ok tt → Reached h (standing_in r c p)
+    → r q.register ≡ outcome (h.kind securities) (r p.register) (deed k securities (state_at p.trades.rows x.trade) (terms_at p.trades.rows x.trade) x)
+    → c q.cash ≡ outcome (h.kind cash) (c p.cash) (deed k cash (state_at p.trades.rows x.trade) (terms_at p.trades.rows x.trade) x)
+    → q.trades.rows ≡ rows_after k x p.trades.rows → Given h (standing_in r c p) (standing_in r c q) x
+given-carried h r c p q x k kk v z er ec et =
+    let s = standing_in r c p in
+    let ok = accepts x (answer h s x) v in
+    given h s (standing_in r c q) x z (carried h (r p.register) (c p.cash) (r q.register) (c q.cash) p.trades.rows q.trades.rows x k kk p.trades.whole z ok er ec et ∙ sym (accepted h s x ok))

@@ -1,12 +1,17 @@
 -- The code's ledger as a standing. Assumes nothing.
-use Rattle.std.proofs.Common.{◌≡◌, ℕ, List, get_or, replicate, ap, ◌∙◌, ⊎_elim}
+use Rattle.std.proofs.Common.{◌≡◌, ℕ, ◌<◌, ◌≤◌, ◌⊎◌, inl, inr, List, [], length, map, get_or, replicate, sym, ap, ◌∙◌, ⊎_elim, subst, arith}
+use Rattle.std.specs.List.{range_with_len}
 use Rattle.std.proofs.lemmas.List.{get_or_past, get_or-replicate}
+use Rattle.std.proofs.lemmas.List.FromFn.{get_or-map-range_with_len, length-map-range_with_len}
 use Rattle.std.proofs.lemmas.Bool.{cases_lt}
-use Rattle.book.specs.Holdings.{Holdings, nothing}
+use Rattle.book.specs.declared.Holding.{Holding}
+use Rattle.book.specs.Holdings.{Holdings, BookKind, nothing}
+use Rattle.book.specs.Rulings.{holding_at}
 use Rattle.rulebook.specs.declared.Trade.{Trade}
 use Rattle.rulebook.specs.Terms.{Side, securities, cash}
-use Rattle.rulebook.specs.Rules.{Standing, empty}
-use Rattle.ledger.specs.View.{by_side, standing}
+use Rattle.rulebook.specs.Rules.{Rulebook, Standing, empty, start, Reached}
+use Rattle.ledger.specs.View.{by_side, standing, Table, no_holding, holding_in, holdings_in, table_of, Tables, tables_of, standing_of, standing_in}
+use Rattle.ledger.specs.declared.parts.Parts.{Parts}
 use Rattle.ledger.specs.Rows.{blank, state_at, terms_at}
 
 replicated : (t : ℕ) → get_or (replicate 128 blank) t blank ≡ blank
@@ -23,3 +28,46 @@ pub fresh : (r c : Holdings) (rows : List Trade) → r ≡ nothing → c ≡ not
 fresh r c rows er ec e =
     let row : (t : ℕ) → get_or rows t blank ≡ blank = λ t. ap (λ z. get_or z t blank) e ∙ replicated t in
     standing-same r c rows empty er ec (λ t. ap (λ z. z.state) (row t)) (λ t. ap (λ z. z.terms) (row t))
+
+-- no instruction leads to the empty standing
+pub reached-empty : (h : Rulebook) (s : Standing) → s ≡ empty → Reached h s
+reached-empty h s e = subst (Reached h) (sym e) ([], start)
+
+-- a book has nothing of an account or an item that it has not
+abbrev pub Outside : BookKind → Holdings → Type 0
+Outside k b = (a i : ℕ) → (64 ≤ a) ⊎ (k.items ≤ i) → (b.free a i ≡ 0) × (b.blocked a i ≡ 0)
+
+-- its table says the same
+module _ (k : BookKind) (b : Holdings) (o : Outside k b) where
+  row_of : ℕ → List Holding
+  row_of a = map (holding_at b a) (range_with_len 0 k.items)
+
+  none-there : (a i : ℕ) → (64 ≤ a) ⊎ (k.items ≤ i) → no_holding ≡ holding_at b a i
+  none-there a i p = let z = o a i p in λ j. record { free = sym z.0 j; blocked = sym z.1 j }
+
+  in-row : (a i : ℕ) → get_or (row_of a) i no_holding ≡ holding_at b a i
+  unfolding row_of
+  in-row a i =
+      ⊎_elim (λ (l : i < k.items). get_or-map-range_with_len (holding_at b a) 0 k.items i i no_holding l (omega arith))
+      (λ (p : k.items ≤ i). get_or_past (row_of a) i no_holding (subst (λ n. n ≤ i) (sym (length-map-range_with_len (holding_at b a) 0 k.items)) p) ∙ none-there a i (inr p))
+      (cases_lt i k.items)
+
+  in-table : (a i : ℕ) → holding_in (table_of k b) a i ≡ holding_at b a i
+  unfolding row_of table_of
+  in-table a i =
+      ⊎_elim (λ (l : a < 64). ap (λ r. get_or r i no_holding) (get_or-map-range_with_len row_of 0 64 a a [] l (omega arith)) ∙ in-row a i)
+      (λ (p : 64 ≤ a). ap (λ r. get_or r i no_holding) (get_or_past (table_of k b) a [] (subst (λ n. n ≤ a) (sym (length-map-range_with_len row_of 0 64)) p)) ∙ none-there a i (inl p))
+      (cases_lt a 64)
+
+  pub tabled : holdings_in (table_of k b) ≡ b
+  tabled = λ j. record { free = λ a i. (in-table a i j).free; blocked = λ a i. (in-table a i j).blocked }
+
+-- where a ledger stands is where its parts do
+pub stands : {R C : Type 0} (h : Rulebook) (r : R → Holdings) (c : C → Holdings) (p : Parts R C) (t : Tables)
+    → ((b : R) → Outside (h.kind securities) (r b)) → ((b : C) → Outside (h.kind cash) (c b))
+    → tables_of h (r p.register) (c p.cash) p.trades.rows ≡ t → standing_of t ≡ standing_in r c p
+stands h r c p t or oc e =
+    let rows = p.trades.rows in
+    ap standing_of (sym e)
+    ∙ ap (λ b. standing b (holdings_in (table_of (h.kind cash) (c p.cash))) rows) (tabled (h.kind securities) (r p.register) (or p.register))
+    ∙ ap (λ b. standing (r p.register) b rows) (tabled (h.kind cash) (c p.cash) (oc p.cash))

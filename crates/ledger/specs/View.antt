@@ -1,11 +1,12 @@
--- Where the code's ledger stands. Assumes nothing.
-use Rattle.std.specs.Prelude.{ℕ, List, Result}
+-- What a contract sees of a ledger, and where the ledger stands. Assumes nothing.
+use Rattle.std.specs.Prelude.{ℕ, List, [], map, Result, slice_index_or}
+use Rattle.std.specs.List.{range_with_len}
 use Rattle.answers.specs.declared.Refusal.{Refusal}
 use Rattle.book.specs.declared.Holding.{Holding}
 use Rattle.book.specs.Holdings.{Holdings, BookKind}
 use Rattle.book.specs.Rulings.{asked, holding_at}
 use Rattle.rulebook.specs.declared.Trade.{Trade}
-use Rattle.ledger.specs.declared.Ledger.{Ledger}
+use Rattle.ledger.specs.declared.parts.Parts.{Parts}
 use Rattle.rulebook.specs.Terms.{Side, securities, cash}
 use Rattle.rulebook.specs.Rules.{Rulebook, Standing}
 use Rattle.ledger.specs.Rows.{state_at, terms_at}
@@ -22,9 +23,39 @@ rulebook r c = record { kind = by_side r c }
 abbrev pub standing : Holdings → Holdings → List Trade → Standing
 standing r c rows = record { book = by_side r c; state = state_at rows; terms = terms_at rows }
 
--- by the meaning of each book
-abbrev pub standing_of : {R C : Type 0} → (R → Holdings) → (C → Holdings) → Ledger R C → Standing
-standing_of r c l = standing (r l.register) (c l.cash) l.trades.rows
+-- a book in a table: a row for each account, and in it a holding for each item
+abbrev pub Table : Type 0
+Table = List (List Holding)
+
+abbrev pub no_holding : Holding
+no_holding = record { free = 0; blocked = 0 }
+
+-- an account or an item that the table has not has nothing
+abbrev pub holding_in : Table → ℕ → ℕ → Holding
+holding_in t account item = slice_index_or (slice_index_or t account []) item no_holding
+
+abbrev pub holdings_in : Table → Holdings
+holdings_in t = record { free = λ a i. (holding_in t a i).free; blocked = λ a i. (holding_in t a i).blocked }
+
+unfoldable pub table_of : BookKind → Holdings → Table
+table_of k b = map (λ a. map (holding_at b a) (range_with_len 0 k.items)) (range_with_len 0 64)
+
+-- a ledger, as a contract sees it
+pub record Tables : Type 0 where
+  pub register : Table
+  pub cash : Table
+  pub trades : List Trade
+
+abbrev pub tables_of : Rulebook → Holdings → Holdings → List Trade → Tables
+tables_of h r c rows = record { register = table_of (h.kind securities) r; cash = table_of (h.kind cash) c; trades = rows }
+
+-- where a ledger stands
+abbrev pub standing_of : Tables → Standing
+standing_of t = standing (holdings_in t.register) (holdings_in t.cash) t.trades
+
+-- and its parts, by the meaning of each book
+abbrev pub standing_in : {R C : Type 0} → (R → Holdings) → (C → Holdings) → Parts R C → Standing
+standing_in r c p = standing (r p.register) (c p.cash) p.trades.rows
 
 -- the question of what an account has of an item, or of a currency
 abbrev pub holding_question : Rulebook → Standing → Side → ℕ → ℕ → Result Holding Refusal

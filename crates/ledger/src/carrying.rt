@@ -5,7 +5,7 @@ ghost use Rattle.rulebook.specs.Terms.{securities, cash as money};
 ghost use Rattle.rulebook.specs.Rules.{deed};
 ghost use Rattle.ledger.specs.Rows.{state_at, terms_at, rows_after};
 
-use crate::Ledger;
+use crate::parts::Parts;
 use answers::Refusal;
 use book::Book;
 use instruction::{Instruction, Kind};
@@ -18,8 +18,8 @@ fn move_securities<B: Book>(
     trade: &Trade,
     x: &Instruction,
 ) -> Result<(), Refusal>
-    ensures answer { result ≡ ruling B.Book.fixed (B.Book.holdings register.old) (deed (Some kind) securities trade.now.state trade.now.terms x.now) }
-    ensures after { B.Book.holdings register.new ≡ outcome B.Book.fixed (B.Book.holdings register.old) (deed (Some kind) securities trade.now.state trade.now.terms x.now) }
+    ensures answer { result ≡ ruling B.fixed (B.holdings register.old) (deed (Some kind) securities trade.now.state trade.now.terms x.now) }
+    ensures after { B.holdings register.new ≡ outcome B.fixed (B.holdings register.old) (deed (Some kind) securities trade.now.state trade.now.terms x.now) }
 {
     let terms = trade.terms;
     match kind {
@@ -45,8 +45,8 @@ fn move_cash<B: Book>(
     trade: &Trade,
     x: &Instruction,
 ) -> Result<(), Refusal>
-    ensures answer { result ≡ ruling B.Book.fixed (B.Book.holdings cash.old) (deed (Some kind) money trade.now.state trade.now.terms x.now) }
-    ensures after { B.Book.holdings cash.new ≡ outcome B.Book.fixed (B.Book.holdings cash.old) (deed (Some kind) money trade.now.state trade.now.terms x.now) }
+    ensures answer { result ≡ ruling B.fixed (B.holdings cash.old) (deed (Some kind) money trade.now.state trade.now.terms x.now) }
+    ensures after { B.holdings cash.new ≡ outcome B.fixed (B.holdings cash.old) (deed (Some kind) money trade.now.state trade.now.terms x.now) }
 {
     let terms = trade.terms;
     match kind {
@@ -61,22 +61,19 @@ fn move_cash<B: Book>(
     }
 }
 
-impl<R: Book, C: Book> Ledger<R, C> {
+impl<R: Book, C: Book> Parts<R, C> {
     // The books and the trade after an instruction. The books' answers are let go: they accept whatever
     // the rules accept.
     pub(crate) fn carry_out(&mut self, kind: Kind, x: &Instruction)
-        ensures register { R.Book.holdings self.new.register ≡ outcome R.Book.fixed (R.Book.holdings self.old.register) (deed (Some kind) securities (state_at self.old.trades.rows x.now.trade) (terms_at self.old.trades.rows x.now.trade) x.now) }
-        ensures cash { C.Book.holdings self.new.cash ≡ outcome C.Book.fixed (C.Book.holdings self.old.cash) (deed (Some kind) money (state_at self.old.trades.rows x.now.trade) (terms_at self.old.trades.rows x.now.trade) x.now) }
+        ensures register { R.holdings self.new.register ≡ outcome R.fixed (R.holdings self.old.register) (deed (Some kind) securities (state_at self.old.trades.rows x.now.trade) (terms_at self.old.trades.rows x.now.trade) x.now) }
+        ensures cash { C.holdings self.new.cash ≡ outcome C.fixed (C.holdings self.old.cash) (deed (Some kind) money (state_at self.old.trades.rows x.now.trade) (terms_at self.old.trades.rows x.now.trade) x.now) }
         ensures trades { self.new.trades.rows ≡ rows_after (Some kind) x.now self.old.trades.rows }
     {
         let trade = self.trades.at(x.trade);
         let _ = move_securities(&mut self.register, kind, &trade, x);
         let _ = move_cash(&mut self.cash, kind, &trade, x);
-        match trade.turned(kind, x) {
-            Some(turned) => {
-                let _ = self.trades.put(x.trade, turned);
-            }
-            None => {}
+        if let Some(turned) = trade.turned(kind, x) {
+            let _ = self.trades.put(x.trade, turned);
         }
     }
 }

@@ -1,15 +1,16 @@
 // The rules' answer to an instruction, with nothing changed.
-ghost use Rattle.std.specs.Prelude.{◌≡◌, [], if◌then◌else◌, Some, Ok, Err, nat_lt};
+ghost use Rattle.std.specs.Prelude.{◌≡◌, [], if◌then◌else◌, Some, Ok, Err, nat_lt, MatchResult};
+ghost use Rattle.instruction.specs.Kinds.{kind_at};
 ghost use Rattle.book.specs.Rulings.{first};
-ghost use Rattle.rulebook.specs.Rules.{stray, enter_checks, trade_checks, own_checks, answer_as};
+ghost use Rattle.rulebook.specs.Rules.{stray, enter_checks, trade_checks, own_checks, answer_as, verdict, fault_of};
 ghost use Rattle.ledger.specs.Rows.{state_at, startable};
-ghost use Rattle.ledger.specs.View.{rulebook, standing_of};
+ghost use Rattle.ledger.specs.View.{rulebook, standing_in};
 
-use crate::Ledger;
-use answers::Refusal;
+use crate::parts::Parts;
+use answers::{Fault, Refusal};
 use book::Book;
 use instruction::{Instruction, Kind};
-use rulebook::Trade;
+use rulebook::{Trade, about};
 
 // A field other than the kind and the trade is not 0.
 fn past_trade(x: &Instruction) -> bool
@@ -35,6 +36,13 @@ fn has_stray_field(kind: Kind, x: &Instruction) -> bool
     }
 }
 
+// A refusal names the trade of an instruction that is about one.
+fn fault_of(x: &Instruction, refusal: Refusal) -> Fault
+    ensures { result ≡ fault_of x.now refusal }
+{
+    about(x, Fault::plain(refusal))
+}
+
 fn enough(free: u64, wanted: u64) -> Result<(), Refusal>
     ensures { result ≡ (if nat_lt free wanted then Err Refusal.OverFree else Ok tt) }
 {
@@ -44,7 +52,7 @@ fn enough(free: u64, wanted: u64) -> Result<(), Refusal>
     Ok(())
 }
 
-impl<R: Book, C: Book> Ledger<R, C> {
+impl<R: Book, C: Book> Parts<R, C> {
     // The trade that an instruction of this kind names, if it may start from the trade's state.
     fn startable(&self, kind: Kind, refusal: Refusal, number: u32) -> Result<Trade, Refusal>
         ensures { result ≡ startable (Some kind) refusal self.now.trades.rows number }
@@ -61,14 +69,14 @@ impl<R: Book, C: Book> Ledger<R, C> {
 
     // An Enter: the trade's number, that it was never entered, then the terms.
     fn enter_ruling(&self, x: &Instruction) -> Result<(), Refusal>
-        ensures { result ≡ first (own_checks (rulebook R.Book.fixed C.Book.fixed) (Some Kind.Enter) (standing_of R.Book.holdings C.Book.holdings self.now) x.now) }
+        ensures { result ≡ first (own_checks (rulebook R.fixed C.fixed) (Some Kind.Enter) (standing_in R.holdings C.holdings self.now) x.now) }
     {
         let _ = self.startable(Kind::Enter, Refusal::EverEntered, x.trade)?;
         self.terms_ruling(x)
     }
 
     fn terms_ruling(&self, x: &Instruction) -> Result<(), Refusal>
-        ensures { result ≡ first (enter_checks (rulebook R.Book.fixed C.Book.fixed) x.now) }
+        ensures { result ≡ first (enter_checks (rulebook R.fixed C.fixed) x.now) }
     {
         if x.account == x.counterparty {
             return Err(Refusal::SameParties);
@@ -87,7 +95,7 @@ impl<R: Book, C: Book> Ledger<R, C> {
 
     // An Earmark: the seller has enough free securities.
     fn earmark_ruling(&self, x: &Instruction) -> Result<(), Refusal>
-        ensures { result ≡ first (own_checks (rulebook R.Book.fixed C.Book.fixed) (Some Kind.Earmark) (standing_of R.Book.holdings C.Book.holdings self.now) x.now) }
+        ensures { result ≡ first (own_checks (rulebook R.fixed C.fixed) (Some Kind.Earmark) (standing_in R.holdings C.holdings self.now) x.now) }
     {
         let trade = self.startable(Kind::Earmark, Refusal::WrongState, x.trade)?;
         let free = self
@@ -98,7 +106,7 @@ impl<R: Book, C: Book> Ledger<R, C> {
 
     // A Fund: the buyer has enough free cash.
     fn fund_ruling(&self, x: &Instruction) -> Result<(), Refusal>
-        ensures { result ≡ first (own_checks (rulebook R.Book.fixed C.Book.fixed) (Some Kind.Fund) (standing_of R.Book.holdings C.Book.holdings self.now) x.now) }
+        ensures { result ≡ first (own_checks (rulebook R.fixed C.fixed) (Some Kind.Fund) (standing_in R.holdings C.holdings self.now) x.now) }
     {
         let trade = self.startable(Kind::Fund, Refusal::WrongState, x.trade)?;
         let free = self.cash.available(trade.terms.buyer, trade.terms.currency);
@@ -114,8 +122,8 @@ impl<R: Book, C: Book> Ledger<R, C> {
     }
 
     // The answer to an instruction of a known kind.
-    pub(crate) fn ruling(&self, kind: Kind, x: &Instruction) -> Result<(), Refusal>
-        ensures { result ≡ answer_as (rulebook R.Book.fixed C.Book.fixed) (Some kind) (standing_of R.Book.holdings C.Book.holdings self.now) x.now }
+    fn ruling(&self, kind: Kind, x: &Instruction) -> Result<(), Refusal>
+        ensures { result ≡ answer_as (rulebook R.fixed C.fixed) (Some kind) (standing_in R.holdings C.holdings self.now) x.now }
     {
         if has_stray_field(kind, x) {
             return Err(Refusal::StrayField);
@@ -128,5 +136,17 @@ impl<R: Book, C: Book> Ledger<R, C> {
             Kind::Fund => self.fund_ruling(x),
             Kind::Settle | Kind::Free => self.start_ruling(kind, x),
         }
+    }
+
+    // The kind of an instruction that the rules accept now, or their fault.
+    pub(crate) fn accepted(&self, x: &Instruction) -> Result<Kind, Fault>
+        ensures { MatchResult result
+            (λ kind. (kind_at x.now.kind ≡ Some kind) × (verdict (rulebook R.fixed C.fixed) (standing_in R.holdings C.holdings self.now) x.now ≡ Ok tt))
+            (λ fault. verdict (rulebook R.fixed C.fixed) (standing_in R.holdings C.holdings self.now) x.now ≡ Err fault) }
+    {
+        let kind = Kind::from_code(x.kind).ok_or(Fault::plain(Refusal::UnknownKind))?;
+        self.ruling(kind, x)
+            .map_err(|refusal| fault_of(x, refusal))?;
+        Ok(kind)
     }
 }

@@ -3,7 +3,7 @@
 
 ghost use Rattle.std.specs.Prelude.{◌≡◌};
 ghost use Rattle.rulebook.specs.Terms.{securities as in_securities, cash as in_cash};
-ghost use Rattle.rulebook.specs.Rules.{empty, verdict, fault_of, Reached};
+ghost use Rattle.rulebook.specs.Rules.{empty, verdict};
 ghost use Rattle.ledger.specs.Rows.{state_question};
 ghost use Rattle.ledger.specs.View.{rulebook, standing_of, holding_question};
 ghost use Rattle.rulebook.specs.Table.{StateTable};
@@ -11,119 +11,110 @@ ghost use Rattle.rulebook.specs.Law.{Given, KeptIfRefused};
 
 mod carrying;
 mod judging;
+mod parts;
 pub mod trades;
 
 use answers::{Fault, Refusal};
 use book::{Book, Holding};
-use instruction::{Instruction, Kind};
-use rulebook::{State, about};
-use trades::Trades;
+use instruction::Instruction;
+use parts::Parts;
+use rulebook::State;
+use std::marker::Model;
+use trades::{TRADES, Trades};
 
 // Any register and any cash book, with the trades between their accounts.
 #[derive(Drop)]
 pub struct Ledger<R: Book, C: Book> {
-    trades: Trades,
-    register: R,
-    cash: C,
+    parts: Parts<R, C>,
 }
 
-// A refusal names the trade of an instruction that is about one.
-fn fault_of(x: &Instruction, refusal: Refusal) -> Fault
-    ensures { result ≡ fault_of x.now refusal }
-{
-    about(x, Fault::plain(refusal))
+// A contract sees the books and the trades as tables. Accepted instructions led to where a ledger stands.
+impl<R: Book, C: Book> Model for Ledger<R, C> {
+    ghost use Rattle.rulebook.specs.Rules.{Reached};
+    ghost use Rattle.ledger.specs.View.{Tables, tables_of, rulebook, standing_in};
+
+    ghost Value = { Tables };
+
+    ghost view = { λ l. tables_of (rulebook R.fixed C.fixed) (R.holdings l.parts.register) (C.holdings l.parts.cash) l.parts.trades.rows };
+
+    ghost invariant = { λ l. Reached (rulebook R.fixed C.fixed) (standing_in R.holdings C.holdings l.parts) };
 }
 
 impl<R: Book, C: Book> Ledger<R, C> {
     // A ledger over these books, cleared: no instruction was accepted yet.
     pub fn new(register: R, cash: C) -> Ledger<R, C>
-        ensures { standing_of R.Book.holdings C.Book.holdings result ≡ empty }
+        ensures { standing_of result ≡ empty }
     {
-        let mut ledger = Ledger {
+        let mut parts = Parts {
             trades: Trades::new(),
             register,
             cash,
         };
-        ledger.clear();
-        ledger
+        parts.clear();
+        Ledger { parts }
     }
 
     // All amounts become 0, and no trade was ever entered.
     pub fn clear(&mut self)
-        ensures { standing_of R.Book.holdings C.Book.holdings self.new ≡ empty }
+        ensures { standing_of self.new ≡ empty }
     {
-        self.trades = Trades::new();
-        self.register.clear();
-        self.cash.clear();
+        self.parts.clear();
     }
 
     // The register and the cash book, as they stand.
     pub fn into_books(self) -> (R, C)
-        ensures register { R.Book.holdings result.0 ≡ (standing_of R.Book.holdings C.Book.holdings self).book in_securities }
-        ensures cash { C.Book.holdings result.1 ≡ (standing_of R.Book.holdings C.Book.holdings self).book in_cash }
+        ensures register { R.holdings result.0 ≡ (standing_of self).book in_securities }
+        ensures cash { C.holdings result.1 ≡ (standing_of self).book in_cash }
     {
-        let Ledger {
+        let Parts {
             trades: _,
             register,
             cash,
-        } = self;
+        } = self.parts;
         (register, cash)
     }
 
     // What the rules answer to an instruction now; nothing changes.
     pub fn judge(&self, x: &Instruction) -> Result<(), Fault>
-        ensures { result ≡ verdict (rulebook R.Book.fixed C.Book.fixed) (standing_of R.Book.holdings C.Book.holdings self.now) x.now }
+        ensures { result ≡ verdict (rulebook R.fixed C.fixed) (standing_of self.now) x.now }
     {
-        let Ok(kind) = Kind::try_from(x.kind) else {
-            return Err(Fault::plain(Refusal::UnknownKind));
-        };
-        match self.ruling(kind, x) {
-            Ok(()) => Ok(()),
-            Err(refusal) => Err(fault_of(x, refusal)),
-        }
+        self.parts.accepted(x)?;
+        Ok(())
     }
 
-    // Judges an instruction, and carries it out where the rules accept it. A ledger that was made new and given
-    // instructions is one that accepted instructions led to, so there is no step of it that the clause leaves out.
+    // Judges an instruction, and carries it out where the rules accept it.
     pub fn instruct(&mut self, x: &Instruction) -> Result<(), Fault>
-        ensures answer { result ≡ verdict (rulebook R.Book.fixed C.Book.fixed) (standing_of R.Book.holdings C.Book.holdings self.old) x.now }
-        ensures after { Reached (rulebook R.Book.fixed C.Book.fixed) (standing_of R.Book.holdings C.Book.holdings self.old) → Given (rulebook R.Book.fixed C.Book.fixed) (standing_of R.Book.holdings C.Book.holdings self.old) (standing_of R.Book.holdings C.Book.holdings self.new) x.now }
-        ensures kept { KeptIfRefused result (standing_of R.Book.holdings C.Book.holdings self.old) (standing_of R.Book.holdings C.Book.holdings self.new) }
+        ensures answer { result ≡ verdict (rulebook R.fixed C.fixed) (standing_of self.old) x.now }
+        ensures after { Given (rulebook R.fixed C.fixed) (standing_of self.old) (standing_of self.new) x.now }
+        ensures kept { KeptIfRefused result (standing_of self.old) (standing_of self.new) }
         ensures table { StateTable }
     {
-        let Ok(kind) = Kind::try_from(x.kind) else {
-            return Err(Fault::plain(Refusal::UnknownKind));
-        };
-        match self.ruling(kind, x) {
-            Ok(()) => {
-                self.carry_out(kind, x);
-                Ok(())
-            }
-            Err(refusal) => Err(fault_of(x, refusal)),
-        }
+        let kind = self.parts.accepted(x)?;
+        self.parts.carry_out(kind, x);
+        Ok(())
     }
 
     // The state of a trade.
     pub fn trade_state(&self, number: u32) -> Result<State, Refusal>
-        ensures { result ≡ state_question (standing_of R.Book.holdings C.Book.holdings self.now).state number }
+        ensures { result ≡ state_question (standing_of self.now).state number }
     {
-        if number >= 128 {
+        if number >= TRADES {
             return Err(Refusal::NoTrade);
         }
-        Ok(self.trades.at(number).state)
+        Ok(self.parts.trades.at(number).state)
     }
 
     // What an account has of an item of the register.
     pub fn securities(&self, account: u16, item: u16) -> Result<Holding, Refusal>
-        ensures { result ≡ holding_question (rulebook R.Book.fixed C.Book.fixed) (standing_of R.Book.holdings C.Book.holdings self.now) in_securities account item }
+        ensures { result ≡ holding_question (rulebook R.fixed C.fixed) (standing_of self.now) in_securities account item }
     {
-        self.register.holding(account, item)
+        self.parts.register.holding(account, item)
     }
 
     // What an account has of a currency.
     pub fn money(&self, account: u16, currency: u16) -> Result<Holding, Refusal>
-        ensures { result ≡ holding_question (rulebook R.Book.fixed C.Book.fixed) (standing_of R.Book.holdings C.Book.holdings self.now) in_cash account currency }
+        ensures { result ≡ holding_question (rulebook R.fixed C.fixed) (standing_of self.now) in_cash account currency }
     {
-        self.cash.holding(account, currency)
+        self.parts.cash.holding(account, currency)
     }
 }

@@ -6,6 +6,9 @@ ghost use Rattle.ledger.specs.Rows.{blank, put as put_in, put_answer};
 use answers::Refusal;
 use rulebook::{State, Terms, Trade};
 
+// The trades that the table has room for.
+pub(crate) const TRADES: u32 = 128;
+
 #[derive(Drop)]
 pub struct Trades {
     rows: [Trade; 128],

@@ -8,6 +8,6 @@ returns-in-Err-instruct g c =
     let is : request_in c.args.line.now ≡ Ok (Instruct c.in-Ok-Instruct.x) = search rules in
     record {
       answer = search rules;
-      after = λ reached. rw is (c.in-Err-instruct.ensures.after reached).after;
+      after = rw is c.in-Err-instruct.ensures.after.after;
       kept = c.in-Err-instruct.ensures.kept;
     }

@@ -7,7 +7,7 @@ use Rattle.examination.proofs.answer_script.Goals as goal
 pub loop-line-init : goal.loop-line-init
 loop-line-init g c =
     let h = rulebook g.R.Book.fixed g.C.Book.fixed in
-    let s = standing_of g.R.Book.holdings g.C.Book.holdings c.clear.new.self in
+    let s = standing_of c.clear.new.self in
     let bs = c.args.script.now in
     subst (λ rest. Going h bs (vec_items c.new-answers.result) s rest) (sym c.new-lines.ensures)
     (subst (λ old. Going h bs old s bs) (sym c.new-answers.ensures.items) (going_start h bs s c.clear.ensures))
@@ -15,8 +15,8 @@ loop-line-init g c =
 pub loop-line-preserved : goal.loop-line-preserved
 loop-line-preserved g c =
     let h = rulebook g.R.Book.fixed g.C.Book.fixed in
-    let s = standing_of g.R.Book.holdings g.C.Book.holdings c.loop-line.ledger in
-    let t = standing_of g.R.Book.holdings g.C.Book.holdings c.answer_line.new.ledger in
+    let s = standing_of c.loop-line.ledger in
+    let t = standing_of c.answer_line.new.ledger in
     going_more h c.args.script.now (vec_items c.loop-line.answers) (vec_items c.push_reserved.new.self) c.answer_line.result s t
     c.loop-line.lines.rest.now c.next_line.new.self.rest.now c.in-Some.line.now c.loop-line.invariant c.in-Some.ensures.lines
     c.answer_line.ensures.answer c.answer_line.ensures.after
@@ -25,13 +25,13 @@ loop-line-preserved g c =
 pub returns : goal.returns
 returns g c =
     let h = rulebook g.R.Book.fixed g.C.Book.fixed in
-    let s = standing_of g.R.Book.holdings g.C.Book.holdings c.loop-line.ledger in
+    let s = standing_of c.loop-line.ledger in
     going_end h c.args.script.now (vec_items c.loop-line.answers) s c.loop-line.lines.rest.now c.loop-line.invariant c.in_default.ensures.lines (omega arith)
 
 pub returns-then-is_err : goal.returns-then-is_err
 returns-then-is_err g c =
     let h = rulebook g.R.Book.fixed g.C.Book.fixed in
-    let before = standing_of g.R.Book.holdings g.C.Book.holdings c.args.ledger.now in
-    let s = standing_of g.R.Book.holdings g.C.Book.holdings c.loop-line.ledger in
+    let before = standing_of c.args.ledger.now in
+    let s = standing_of c.loop-line.ledger in
     going-stop h c.args.script.now (vec_items c.loop-line.answers) before s c.loop-line.lines.rest.now c.in-Some.line.now (lines_of c.next_line.new.self.rest.now)
     c.loop-line.invariant c.in-Some.ensures.lines (omega arith)

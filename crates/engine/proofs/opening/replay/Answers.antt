@@ -8,7 +8,7 @@ loop-done-preserved g c =
     let e = c.replay_entry.ensures in
     let is : c.replay_entry.result ≡ Ok (Some c.in-Ok-Some.x) = search rules in
     let d = rw is at e in
-    next-turn _ _ _ _ _ _ _ _ c.loop-done.invariant c.in-Ok-Some.x _ _ (omega arith) d.answer d.after d.books d.reached
+    next-turn _ _ _ _ _ _ _ _ c.loop-done.invariant c.in-Ok-Some.x _ _ (omega arith) d.answer d.after d.books
 
 pub returns-then-done-pairs : goal.returns-then-done-pairs
 returns-then-done-pairs g c =

@@ -5,8 +5,7 @@ use Rattle.engine.proofs.opening.replay.Given as goal
 
 abbrev pub invariant-loop-done : goal.invariant-loop-done
 invariant-loop-done g l =
-    let standing = standing_of g.R.Book.holdings g.C.Book.holdings in
-    Turn (rulebook g.R.Book.fixed g.C.Book.fixed) l.pairs (g.D.Device.medium l.initial.device) (standing l.initial.ledger) l.done (g.D.Device.medium l.device) (standing l.ledger) l.last
+    Turn (rulebook g.R.Book.fixed g.C.Book.fixed) l.pairs (g.D.Device.medium l.initial.device) (standing_of l.initial.ledger) l.done (g.D.Device.medium l.device) (standing_of l.ledger) l.last
 
 abbrev pub decreases-loop-done : goal.decreases-loop-done
 decreases-loop-done g l = l.pairs - l.done

@@ -8,40 +8,36 @@ use Rattle.engine.proofs.opening.replay_entry.Goals as goal
 pub returns-in-Ok : goal.returns-in-Ok
 returns-in-Ok g c =
     let h = rulebook g.R.Book.fixed g.C.Book.fixed in
-    let s = standing_of g.R.Book.holdings g.C.Book.holdings c.args.ledger.now in
+    let s = standing_of c.args.ledger.now in
     let k = c.args.entry in
     let x = c.in_ok-x.x in
     let v = c.in-Ok.ensures.answer in
-    let given = c.in-Ok.ensures.after c.requires.reached in
     record {
       answer = ap (allowed k x) v ∙ record-next h _ _ s k (Ok x) search (rules) c.read_mark.ensures.after c.in_ok-x.ensures.answer;
       after = two-calls _ _ _ c.read_mark.ensures.after c.read_entry.ensures.after;
-      books = carried h s _ x v given.after;
-      reached = given.reached;
+      books = carried h s _ x v c.in-Ok.ensures.after.after;
     }
 
 pub returns-in_err-x : goal.returns-in_err-x
 returns-in_err-x g c =
     let h = rulebook g.R.Book.fixed g.C.Book.fixed in
-    let s = standing_of g.R.Book.holdings g.C.Book.holdings c.args.ledger.now in
+    let s = standing_of c.args.ledger.now in
     let k = c.args.entry in
     let p = err_from_is_err_and c.from_residual-in_err-x.result c.from_residual-in_err-x.ensures.1 in
     rw (p.1, p.2) (record {
       answer = record-next h _ _ s k _ search (rules) c.read_mark.ensures.after c.in_err-x.ensures.answer;
       after = two-calls _ _ _ c.read_mark.ensures.after c.read_entry.ensures.after;
       books = refl;
-      reached = c.requires.reached;
     })
 
 pub returns-in-Err : goal.returns-in-Err
 returns-in-Err g c =
     let h = rulebook g.R.Book.fixed g.C.Book.fixed in
-    let s = standing_of g.R.Book.holdings g.C.Book.holdings c.args.ledger.now in
+    let s = standing_of c.args.ledger.now in
     let k = c.args.entry in
     let x = c.in_ok-x.x in
     record {
       answer = ap (λ f. Err f) c.of_record.ensures ∙ ap (allowed k x) c.in-Err.ensures.answer ∙ record-next h _ _ s k (Ok x) search (rules) c.read_mark.ensures.after c.in_ok-x.ensures.answer;
       after = two-calls _ _ _ c.read_mark.ensures.after c.read_entry.ensures.after;
       books = c.in-Err.ensures.kept;
-      reached = (c.in-Err.ensures.after c.requires.reached).reached;
     }

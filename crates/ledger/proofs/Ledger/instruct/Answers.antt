@@ -1,50 +1,41 @@
-use Rattle.std.proofs.Common.{cond, Some, None, Ok, Err, sym, refl, ap, ◌∙◌}
-use Rattle.answers.specs.Faults.{plain, on_trade}
-use Rattle.answers.specs.declared.Refusal.TheVariants.{UnknownKind}
-use Rattle.rulebook.specs.Rules.{names_trade, with_trade}
-use Rattle.ledger.specs.View.{rulebook, standing_of}
+use Rattle.std.proofs.Common.{sym, refl, ap, ◌∙◌, subst₂}
+use Rattle.std.proofs.lemmas.Result.{err_from_is_err_and}
+use Rattle.rulebook.specs.Rules.{verdict}
+use Rattle.rulebook.specs.Law.{Given}
 use Rattle.rulebook.proofs.Tables.{state-table}
-use Rattle.rulebook.proofs.Givens.{given, refused, accepted}
-use Rattle.ledger.proofs.Carried.{carried, answer-as}
+use Rattle.ledger.specs.View.{rulebook}
+use Rattle.ledger.proofs.Views.{stands}
+use Rattle.ledger.proofs.Carried.{given-carried, given-refused}
 use Rattle.ledger.proofs.Ledger.instruct.Goals as goal
 
-pub returns-in_default : goal.returns-in_default
-returns-in_default g c =
+pub invariant_of-self : goal.invariant_of-self
+invariant_of-self g c =
     let h = rulebook g.R.Book.fixed g.C.Book.fixed in
-    let s = standing_of g.R.Book.holdings g.C.Book.holdings c.args.self.now in
     let x = c.args.x.now in
-    let a = answer-as h s x None (Err UnknownKind) c.in_default.ensures refl in
-    record {
-      answer = ap (λ f. Err f) (c.plain.ensures ∙ ap (λ k. cond (names_trade k) (on_trade UnknownKind x.trade) (plain UnknownKind)) c.in_default.ensures) ∙ sym (ap (with_trade x) a);
-      after = λ reached. given h s s x reached (sym (refused h s x UnknownKind a));
-      kept = refl;
-      table = state-table;
-    }
+    (given-carried h g.R.Book.holdings g.C.Book.holdings c.self.inside.parts c.carry_out.new.self x _ c.in_ok-kind.ensures.0 c.in_ok-kind.ensures.1 c.self.invariant c.carry_out.ensures.register c.carry_out.ensures.cash c.carry_out.ensures.trades).reached
 
-pub returns-in-Ok : goal.returns-in-Ok
-returns-in-Ok g c =
+pub returns : goal.returns
+returns g c =
     let h = rulebook g.R.Book.fixed g.C.Book.fixed in
-    let s = standing_of g.R.Book.holdings g.C.Book.holdings c.args.self.now in
     let x = c.args.x.now in
-    let a = answer-as h s x (Some c.in-Some.kind) (Ok tt) c.in-Some.ensures c.in-Ok.ensures in
+    let old = stands h g.R.Book.holdings g.C.Book.holdings c.self.inside.parts c.args.self.now g.met.R.Book.outside g.met.C.Book.outside c.self.view_is in
+    let new = stands h g.R.Book.holdings g.C.Book.holdings c.carry_out.new.self _ g.met.R.Book.outside g.met.C.Book.outside refl in
     record {
-      answer = sym (ap (with_trade x) a);
-      after = λ reached. given h s _ x reached (carried h _ _ _ _ c.args.self.now.trades.rows _ x (Some c.in-Some.kind) (sym c.in-Some.ensures) c.args.self.now.trades.whole reached a
-          c.carry_out.ensures.register c.carry_out.ensures.cash c.carry_out.ensures.trades
-          ∙ sym (accepted h s x a));
+      answer = sym (ap (λ s. verdict h s x) old ∙ c.in_ok-kind.ensures.1);
+      after = subst₂ (λ s t. Given h s t x) (sym old) (sym new) (given-carried h g.R.Book.holdings g.C.Book.holdings c.self.inside.parts c.carry_out.new.self x _ c.in_ok-kind.ensures.0 c.in_ok-kind.ensures.1 c.self.invariant c.carry_out.ensures.register c.carry_out.ensures.cash c.carry_out.ensures.trades);
       kept = tt;
       table = state-table;
     }
 
-pub returns-in-Err : goal.returns-in-Err
-returns-in-Err g c =
+pub returns-in_err-kind : goal.returns-in_err-kind
+returns-in_err-kind g c =
     let h = rulebook g.R.Book.fixed g.C.Book.fixed in
-    let s = standing_of g.R.Book.holdings g.C.Book.holdings c.args.self.now in
     let x = c.args.x.now in
-    let a = answer-as h s x (Some c.in-Some.kind) (Err c.in-Err.refusal) c.in-Some.ensures c.in-Err.ensures in
-    record {
-      answer = ap (λ f. Err f) c.fault_of.ensures ∙ sym (ap (with_trade x) a);
-      after = λ reached. given h s s x reached (sym (refused h s x c.in-Err.refusal a));
+    let old = stands h g.R.Book.holdings g.C.Book.holdings c.self.inside.parts c.args.self.now g.met.R.Book.outside g.met.C.Book.outside c.self.view_is in
+    let p = err_from_is_err_and c.from_residual.result c.from_residual.ensures.1 in
+    rw (p.1, p.2) (record {
+      answer = sym (ap (λ s. verdict h s x) old ∙ c.in_err-kind.ensures);
+      after = subst₂ (λ s t. Given h s t x) (sym old) (sym old) (given-refused h _ x _ c.in_err-kind.ensures c.self.invariant);
       kept = refl;
       table = state-table;
-    }
+    })

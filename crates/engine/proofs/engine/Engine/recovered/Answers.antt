@@ -2,11 +2,8 @@ use Rattle.std.proofs.Common.{None, ap, ◌∙◌}
 use Rattle.ledger.specs.View.{rulebook}
 use Rattle.engine.specs.Recovery.{scan}
 use Rattle.engine.specs.Opening.{scanned_on}
-use Rattle.engine.proofs.Opens.{reached-empty, scanned}
+use Rattle.engine.proofs.Opens.{scanned}
 use Rattle.engine.proofs.engine.Engine.recovered.Goals as goal
-
-pub replay-requires : goal.replay-requires
-replay-requires g c = record { few = c.requires.fits.few; within = c.requires.fits.within; reached = reached-empty _ _ c.requires.empty }
 
 pub returns : goal.returns
 returns g c =

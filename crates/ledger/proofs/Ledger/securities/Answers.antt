@@ -1,0 +1,11 @@
+use Rattle.std.proofs.Common.{sym, ap, ◌∙◌}
+use Rattle.rulebook.specs.Terms.{securities}
+use Rattle.ledger.specs.View.{rulebook, holding_question}
+use Rattle.ledger.proofs.Views.{stands}
+use Rattle.ledger.proofs.Ledger.securities.Goals as goal
+
+pub returns : goal.returns
+returns g c =
+    let h = rulebook g.R.Book.fixed g.C.Book.fixed in
+    let e = stands h g.R.Book.holdings g.C.Book.holdings c.self.inside.parts c.args.self.now g.met.R.Book.outside g.met.C.Book.outside c.self.view_is in
+    c.holding.ensures ∙ ap (λ s. holding_question h s securities c.args.account c.args.item) (sym e)
