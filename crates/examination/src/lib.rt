@@ -77,8 +77,7 @@ pub fn answer_script<R: Book, C: Book>(
     }
     ledger.clear();
     let mut answers = Vec::new(heap);
-    let mut lines = Lines::new(script);
-    while let Some(line) = lines.next_line() {
+    for line in Lines::new(script) {
         if answers.reserve(1).is_err() {
             return Err(Stop::NoMemory);
         }
