@@ -72,7 +72,11 @@ fn kinds<R: Book, C: Book>(rt: &HostRuntime, ledger: &mut Ledger<R, C>) -> anyho
     give_all(
         rt,
         ledger,
-        &[("kind 0", unknown(0)), ("kind 8", with_trade), ("kind 255", with_amount)],
+        &[
+            ("kind 0", unknown(0)),
+            ("kind 8", with_trade),
+            ("kind 255", with_amount),
+        ],
     )
 }
 
@@ -215,14 +219,17 @@ fn tell(rt: &HostRuntime, read: Result<Instruction, Refusal>) -> anyhow::Result<
     Ok(())
 }
 
-// What bytes are of which the one at a place is 1 and the others are 0.
-fn read<const N: usize>(rt: &HostRuntime, place: usize) -> anyhow::Result<()> {
-    let mut bytes = [0u8; N];
+// What so many bytes are, where the byte at one place is 1 and the others are 0.
+fn read(rt: &HostRuntime, count: usize, place: usize) -> anyhow::Result<()> {
+    let mut bytes = [0u8; 33];
     if let Some(byte) = bytes.get_mut(place) {
         *byte = 1;
     }
-    print!(rt; "  {N} bytes, byte {place} at 1: ")?;
-    tell(rt, Instruction::from_bytes(&bytes))
+    let Some(given) = bytes.get(..count) else {
+        return Ok(());
+    };
+    print!(rt; "  {count} bytes, byte {place} at 1: ")?;
+    tell(rt, Instruction::from_bytes(given))
 }
 
 pub(crate) fn run(rt: &HostRuntime) -> anyhow::Result<()> {
@@ -233,12 +240,11 @@ pub(crate) fn run(rt: &HostRuntime) -> anyhow::Result<()> {
     let mut ledger = Ledger::new(Balances::new(), Lots::new());
     all(rt, "balances for lots", &mut ledger)?;
     println!(rt; "bytes")?;
-    read::<0>(rt, 0)?;
-    read::<1>(rt, 0)?;
-    read::<31>(rt, 0)?;
-    read::<33>(rt, 0)?;
+    for count in [0, 1, 31, 33] {
+        read(rt, count, 0)?;
+    }
     for place in 0..32 {
-        read::<32>(rt, place)?;
+        read(rt, 32, place)?;
     }
     Ok(())
 }

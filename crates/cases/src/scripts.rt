@@ -1,25 +1,13 @@
 // Scripts: malformed lines, numbers at their edges, and inputs of every awkward length.
-use anyhow::anyhow;
 use balances::Balances;
-use examination::text::{key_text, refusal_text};
-use examination::{Stop, answer_script};
+use examination::{answer_script, examine};
 use ledger::Ledger;
 
 // Prints a script's key.
 fn key(rt: &HostRuntime, script: &[u8]) -> anyhow::Result<()> {
-    let heap = rt.alloc();
     let mut ledger = Ledger::new(Balances::new(), Balances::new());
-    match answer_script(heap, &mut ledger, script) {
-        Ok(answers) => {
-            let text = key_text(heap, answers.as_slice())?;
-            print!(rt; "{text}")?;
-        }
-        Err(Stop::Refused(refusal)) => {
-            let text = refusal_text(heap, refusal)?;
-            print!(rt; "{text}")?;
-        }
-        Err(Stop::NoMemory) => return Err(anyhow!("no memory")),
-    }
+    let text = examine(rt.alloc(), &mut ledger, script)?;
+    print!(rt; "{text}")?;
     Ok(())
 }
 
@@ -42,12 +30,24 @@ fn shapes(rt: &HostRuntime) -> anyhow::Result<()> {
             ("a last line feed", b"Q 0 0\n"),
             ("an empty last line", b"Q 0 0\n\n"),
             ("carriage returns", b"Q 0 0\r\nK 0 0\r"),
-            ("bytes above 127", b"\x80\nQ \xff 0\n\xc3\x89 0\nQ 0 0\xa0\n"),
+            (
+                "bytes above 127",
+                b"\x80\nQ \xff 0\n\xc3\x89 0\nQ 0 0\xa0\n",
+            ),
             ("a null byte", b"Q 0 0\x00\n\x00\n"),
-            ("spaces", b" Q 0 0\nQ  0 0\nQ 0  0\nQ 0 0 \nQ0 0\nQ 00\nQ\t0 0\n"),
+            (
+                "spaces",
+                b" Q 0 0\nQ  0 0\nQ 0  0\nQ 0 0 \nQ0 0\nQ 00\nQ\t0 0\n",
+            ),
             ("letters", b"q 0 0\nC 0\nX 1\nQQ 0 0\n1 0 0\nB 1\n"),
-            ("fields", b"Q\nQ 0\nQ 0 0 0\nI 0 0\nI 0 0 1 1\nE\nE 0 0\nT 1 2 0 0 0 1\n"),
-            ("signs and zeros", b"Q +0 0\nQ -0 0\nQ 00 0\nQ 0 01\nQ 0x0 0\nQ 0. 0\nQ 1e1 0\n"),
+            (
+                "fields",
+                b"Q\nQ 0\nQ 0 0 0\nI 0 0\nI 0 0 1 1\nE\nE 0 0\nT 1 2 0 0 0 1\n",
+            ),
+            (
+                "signs and zeros",
+                b"Q +0 0\nQ -0 0\nQ 00 0\nQ 0 01\nQ 0x0 0\nQ 0. 0\nQ 1e1 0\n",
+            ),
         ],
     )
 }
@@ -57,12 +57,30 @@ fn edges(rt: &HostRuntime) -> anyhow::Result<()> {
     keys(
         rt,
         &[
-            ("Issue", b"I 0 0 0\nI 63 15 1\nI 64 0 1\nI 65535 0 1\nI 65536 0 1\nI 0 16 1\nI 0 65535 1\nI 0 65536 1\nI 0 0 18446744073709551615\nI 0 0 18446744073709551616\nI 0 0 1000000000000\nI 1 0 1\n"),
-            ("Pay in", b"D 0 0 0\nD 63 15 1\nD 64 0 1\nD 65536 0 1\nD 0 16 1\nD 0 65536 1\nD 0 0 18446744073709551615\nD 0 0 18446744073709551616\nD 0 0 1000000000001\nD 0 0 1000000000000\nD 1 0 1\n"),
-            ("Enter", b"T 70 70 0 0 0 1 1\nT 70 71 0 0 0 1 1\nT 0 64 0 0 0 1 1\nT 0 1 16 0 0 1 1\nT 0 1 0 16 0 1 1\nT 0 1 0 0 0 0 1\nT 0 1 0 0 0 1 0\nT 0 1 0 0 128 1 1\nT 0 1 0 0 4294967295 1 1\nT 0 1 0 0 4294967296 1 1\nT 0 63 15 15 127 18446744073709551615 18446744073709551615\nT 0 0 0 0 127 1 1\n"),
-            ("trades", b"E 0\nE 127\nE 128\nE 4294967295\nE 4294967296\nL 128\nL 0\nS 128\nS 0\nF 128\nF 0\nF 4294967296\n"),
-            ("questions", b"Q 63 15\nQ 64 0\nQ 0 16\nQ 64 16\nQ 65535 65535\nQ 65536 0\nK 63 15\nK 64 0\nK 0 16\nK 0 65536\n"),
-            ("too little", b"T 0 1 0 0 5 10 10\nE 5\nI 0 0 9\nE 5\nI 0 0 1\nE 5\nL 5\nD 1 0 10\nL 5\nF 5\nQ 0 0\nK 1 0\nF 5\nT 0 1 0 0 5 1 1\n"),
+            (
+                "Issue",
+                b"I 0 0 0\nI 63 15 1\nI 64 0 1\nI 65535 0 1\nI 65536 0 1\nI 0 16 1\nI 0 65535 1\nI 0 65536 1\nI 0 0 18446744073709551615\nI 0 0 18446744073709551616\nI 0 0 1000000000000\nI 1 0 1\n",
+            ),
+            (
+                "Pay in",
+                b"D 0 0 0\nD 63 15 1\nD 64 0 1\nD 65536 0 1\nD 0 16 1\nD 0 65536 1\nD 0 0 18446744073709551615\nD 0 0 18446744073709551616\nD 0 0 1000000000001\nD 0 0 1000000000000\nD 1 0 1\n",
+            ),
+            (
+                "Enter",
+                b"T 70 70 0 0 0 1 1\nT 70 71 0 0 0 1 1\nT 0 64 0 0 0 1 1\nT 0 1 16 0 0 1 1\nT 0 1 0 16 0 1 1\nT 0 1 0 0 0 0 1\nT 0 1 0 0 0 1 0\nT 0 1 0 0 128 1 1\nT 0 1 0 0 4294967295 1 1\nT 0 1 0 0 4294967296 1 1\nT 0 63 15 15 127 18446744073709551615 18446744073709551615\nT 0 0 0 0 127 1 1\n",
+            ),
+            (
+                "trades",
+                b"E 0\nE 127\nE 128\nE 4294967295\nE 4294967296\nL 128\nL 0\nS 128\nS 0\nF 128\nF 0\nF 4294967296\n",
+            ),
+            (
+                "questions",
+                b"Q 63 15\nQ 64 0\nQ 0 16\nQ 64 16\nQ 65535 65535\nQ 65536 0\nK 63 15\nK 64 0\nK 0 16\nK 0 65536\n",
+            ),
+            (
+                "too little",
+                b"T 0 1 0 0 5 10 10\nE 5\nI 0 0 9\nE 5\nI 0 0 1\nE 5\nL 5\nD 1 0 10\nL 5\nF 5\nQ 0 0\nK 1 0\nF 5\nT 0 1 0 0 5 1 1\n",
+            ),
         ],
     )
 }

@@ -7,9 +7,8 @@ use Rattle.rulebook.specs.Words.{standing_after}
 use Rattle.std.proofs.lemmas.List.{append-nil, take_all}
 use Rattle.script.specs.Requests.{request_in}
 use Rattle.script.specs.Feeds.{lines_of}
-use Rattle.examination.specs.declared.Answer.{Answer}
-use Rattle.examination.specs.declared.Stop.TheVariants.{NoMemory}
-use Rattle.examination.specs.Replies.{reply, moved}
+use Rattle.examination.specs.declared.stop.Stop.TheVariants.{NoMemory}
+use Rattle.examination.specs.Replies.{Answer, reply, moved}
 use Rattle.examination.specs.Key.{answers_to, end_of, tally, KeyLaw, Keyed, Stopped}
 use Rattle.examination.proofs.Keys.{answers-count, ends, balanced, key-law}
 

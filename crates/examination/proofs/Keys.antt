@@ -1,5 +1,5 @@
 -- The law of a key. Assumes nothing.
-use Rattle.std.proofs.Common.{◌≡◌, ℕ, zero, suc, ◌<◌, Bool, true, false, cond, leb, List, [], ◌∷◌, ◌++◌, length, get_or, take, Ok, Err, Result, sym, refl, ap, ◌∙◌, subst, append_assoc, arith}
+use Rattle.std.proofs.Common.{◌≡◌, ℕ, zero, suc, ◌<◌, Bool, true, false, cond, leb, List, [], ◌∷◌, ◌++◌, length, get_or, take, Some, None, Ok, Err, Result, sym, refl, ap, ◌∙◌, subst, append_assoc, arith}
 use Rattle.answers.specs.declared.Refusal.{Refusal}
 use Rattle.instruction.specs.declared.Instruction.{Instruction}
 use Rattle.book.specs.Holdings.{Holdings}
@@ -16,7 +16,6 @@ use Rattle.script.specs.declared.Request.{Request}
 use Rattle.script.specs.declared.Request.TheVariants.{Instruct, Register, Cash}
 use Rattle.script.specs.Requests.{request_in}
 use Rattle.book.specs.declared.Holding.{Holding}
-use Rattle.examination.specs.declared.Answer.TheVariants.{Done, Held}
 use Rattle.examination.specs.Replies.{verdict_reply, held_reply, holding_reply, reply, moved}
 use Rattle.examination.specs.Key.{answers_to, end_of, counted, tally, AddsUp, KeyLaw}
 use Rattle.answers.specs.declared.Refusal.TheVariants.{NoAccount, NoItem}
@@ -48,7 +47,7 @@ module _ (h : Rulebook) where
       same-run (append_assoc xs new (tally (take n ls) (take n (answers_to h (moved h s q) ls)))) (follows ls (xs ++ new) (moved h s q) (counts xs s run q) n)
 
   -- line n is answered where the lines before it leave the ledger
-  answered : (ls : List (List ℕ)) (s : Standing) (n : ℕ) → n < length ls → get_or (answers_to h s ls) n Done ≡ reply h (end_of h s (take n ls)) (request_in (get_or ls n []))
+  answered : (ls : List (List ℕ)) (s : Standing) (n : ℕ) → n < length ls → get_or (answers_to h s ls) n (Ok None) ≡ reply h (end_of h s (take n ls)) (request_in (get_or ls n []))
   answered [] s n lt = absurd (omega arith)
   answered (l ∷ ls) s zero lt = refl
   answered (l ∷ ls) s (suc n) lt = answered ls (moved h s (request_in l)) n (omega arith)
@@ -67,14 +66,14 @@ module _ (h : Rulebook) where
     stands : (n : ℕ) → Runs h (up_to-line n) (standing_after (up_to-line n))
     stands n = subst (λ s. Runs h (up_to-line n) s) (ends n) (follows ls [] empty start n)
 
-    each : (n : ℕ) → n < length ls → get_or (answers_to h empty ls) n Done ≡ reply h (standing_after (up_to-line n)) (request_in (get_or ls n []))
+    each : (n : ℕ) → n < length ls → get_or (answers_to h empty ls) n (Ok None) ≡ reply h (standing_after (up_to-line n)) (request_in (get_or ls n []))
     each n lt = answered ls empty n lt ∙ ap (λ s. reply h s (request_in (get_or ls n []))) (ends n)
 
     pub balanced : (n : ℕ) (d : Side) (a i : ℕ) → Balanced d (up_to-line n) a i (((standing_after (up_to-line n)).book d).free a i) (((standing_after (up_to-line n)).book d).blocked a i)
     balanced n d a i = law-of-the-ledger h (up_to-line n) (standing_after (up_to-line n)) (stands n) d a i
 
   -- a question that is answered with amounts is answered with the book's
-  held-as : (b c : Bool) (r q : Refusal) (v f : Holding) → held_reply (cond b (Err r) (cond c (Err q) (Ok v))) ≡ Held f → f ≡ v
+  held-as : (b c : Bool) (r q : Refusal) (v f : Holding) → held_reply (cond b (Err r) (cond c (Err q) (Ok v))) ≡ Ok (Some f) → f ≡ v
   held-as true c r q v f e = absurd (let z : ◌≡◌ {A = ℕ} 0 1 = cc in omega arith)
   held-as false true r q v f e = absurd (let z : ◌≡◌ {A = ℕ} 0 1 = cc in omega arith)
   held-as false false r q v f e = cc
@@ -91,9 +90,9 @@ module _ (h : Rulebook) where
     s = standing_after xs
 
     asked-for : (d : Side) (q : Request) → request_in (get_or ls n []) ≡ Ok q → reply h s (Ok q) ≡ holding_reply (h.kind d) (s.book d) p
-        → get_or (answers_to h empty ls) n Done ≡ Held f → AddsUp d xs p f
+        → get_or (answers_to h empty ls) n (Ok None) ≡ Ok (Some f) → AddsUp d xs p f
     asked-for d q e r a =
-        let v : holding_reply (h.kind d) (s.book d) p ≡ Held f = sym r ∙ ap (λ z. reply h s z) (sym e) ∙ sym (each ls n lt) ∙ a in
+        let v : holding_reply (h.kind d) (s.book d) p ≡ Ok (Some f) = sym r ∙ ap (λ z. reply h s z) (sym e) ∙ sym (each ls n lt) ∙ a in
         let w = held-as (leb 64 p.account) (leb (h.kind d).items p.item) NoAccount NoItem (holding_at (s.book d) p.account p.item) f v in
         adds-up d xs (s.book d) p f w (balanced ls n d p.account p.item)
 

@@ -1,5 +1,5 @@
 -- The key of a script, and the law that it keeps. Assumes nothing.
-use Rattle.std.specs.Prelude.{◌≡◌, ℕ, ◌<◌, ◌≤◌, List, [], ◌∷◌, ◌++◌, length, take, Ok, Err, Result, slice_index_or}
+use Rattle.std.specs.Prelude.{◌≡◌, ℕ, ◌<◌, ◌≤◌, List, [], ◌∷◌, ◌++◌, length, take, Some, None, Ok, Err, Result, slice_index_or}
 use Rattle.answers.specs.declared.Refusal.{Refusal}
 use Rattle.answers.specs.declared.Refusal.TheVariants.{InputTooLong}
 use Rattle.instruction.specs.declared.Instruction.{Instruction}
@@ -13,11 +13,9 @@ use Rattle.script.specs.declared.Request.{Request}
 use Rattle.script.specs.declared.Request.TheVariants.{Instruct, Register, Cash}
 use Rattle.script.specs.Requests.{request_in}
 use Rattle.script.specs.Feeds.{lines_of}
-use Rattle.examination.specs.declared.Answer.{Answer}
-use Rattle.examination.specs.declared.Answer.TheVariants.{Done, Held, Refused}
-use Rattle.examination.specs.declared.Stop.{Stop}
-use Rattle.examination.specs.declared.Stop.TheVariants.{Refused as Refuses, NoMemory}
-use Rattle.examination.specs.Replies.{reply, moved}
+use Rattle.examination.specs.declared.stop.Stop.{Stop}
+use Rattle.examination.specs.declared.stop.Stop.TheVariants.{Refused, NoMemory}
+use Rattle.examination.specs.Replies.{Answer, reply, moved}
 
 -- the answers to lines, from a standing on
 abbrev pub answers_to : Rulebook → Standing → List (List ℕ) → List Answer
@@ -31,9 +29,9 @@ end_of h s (l ∷ ls) = end_of h (moved h s (request_in l)) ls
 
 -- The tally of lines and their answers: the instructions that were accepted, in order.
 abbrev pub counted : Result Request Refusal → Answer → List Instruction
-counted (Ok (Instruct x)) Done = x ∷ []
-counted (Ok (Instruct x)) (Held f) = []
-counted (Ok (Instruct x)) (Refused f) = []
+counted (Ok (Instruct x)) (Ok None) = x ∷ []
+counted (Ok (Instruct x)) (Ok (Some f)) = []
+counted (Ok (Instruct x)) (Err f) = []
 counted (Ok (Register p)) a = []
 counted (Ok (Cash p)) a = []
 counted (Err r) a = []
@@ -52,12 +50,12 @@ pub record KeyLaw (h : Rulebook) (lines : List (List ℕ)) (answers : List Answe
   -- the tally was accepted one instruction after another
   pub stands : (n : ℕ) → Runs h (tally (take n lines) (take n answers)) (standing_after (tally (take n lines) (take n answers)))
   -- the next line is answered by the rules where the tally leads
-  pub each : (n : ℕ) → n < length lines → slice_index_or answers n Done ≡ reply h (standing_after (tally (take n lines) (take n answers))) (request_in (slice_index_or lines n []))
+  pub each : (n : ℕ) → n < length lines → slice_index_or answers n (Ok None) ≡ reply h (standing_after (tally (take n lines) (take n answers))) (request_in (slice_index_or lines n []))
   -- there, each book adds up from the tally, for each account and item
   pub books : (n : ℕ) (d : Side) (a i : ℕ) → Balanced d (tally (take n lines) (take n answers)) a i (((standing_after (tally (take n lines) (take n answers))).book d).free a i) (((standing_after (tally (take n lines) (take n answers))).book d).blocked a i)
   -- a question is answered with what adds up from the tally
-  pub register : (n : ℕ) (p : Position) (f : Holding) → n < length lines → request_in (slice_index_or lines n []) ≡ Ok (Register p) → slice_index_or answers n Done ≡ Held f → AddsUp securities (tally (take n lines) (take n answers)) p f
-  pub money : (n : ℕ) (p : Position) (f : Holding) → n < length lines → request_in (slice_index_or lines n []) ≡ Ok (Cash p) → slice_index_or answers n Done ≡ Held f → AddsUp cash (tally (take n lines) (take n answers)) p f
+  pub register : (n : ℕ) (p : Position) (f : Holding) → n < length lines → request_in (slice_index_or lines n []) ≡ Ok (Register p) → slice_index_or answers n (Ok None) ≡ Ok (Some f) → AddsUp securities (tally (take n lines) (take n answers)) p f
+  pub money : (n : ℕ) (p : Position) (f : Holding) → n < length lines → request_in (slice_index_or lines n []) ≡ Ok (Cash p) → slice_index_or answers n (Ok None) ≡ Ok (Some f) → AddsUp cash (tally (take n lines) (take n answers)) p f
   -- what the tally says of a trade's state and terms is what its last instruction and its last Enter say
   pub words : LastWords
 
@@ -74,5 +72,5 @@ pub record Keyed (h : Rulebook) (after : Standing) (script : List ℕ) (answers 
 -- A script that got none: too long, and nothing was done; or no memory was found for the answer to line n + 1, and
 -- the ledger stands after the n lines before it.
 abbrev pub Stopped : Rulebook → Standing → Standing → List ℕ → Stop → Type 0
-Stopped h before after script (Refuses r) = (65536 < length script) × (r ≡ InputTooLong) × (after ≡ before)
+Stopped h before after script (Refused r) = (65536 < length script) × (r ≡ InputTooLong) × (after ≡ before)
 Stopped h before after script NoMemory = (length script ≤ 65536) × ((n : ℕ) × (n < length (lines_of script)) × (after ≡ end_of h empty (take n (lines_of script))))

@@ -1,5 +1,5 @@
 -- What one line is answered, and where it leaves the ledger. Assumes nothing.
-use Rattle.std.specs.Prelude.{◌≡◌, Ok, Err, Result}
+use Rattle.std.specs.Prelude.{◌≡◌, Some, None, Option, Ok, Err, Result}
 use Rattle.answers.specs.declared.Refusal.{Refusal}
 use Rattle.answers.specs.declared.Fault.{Fault}
 use Rattle.answers.specs.Faults.{plain}
@@ -11,16 +11,18 @@ use Rattle.rulebook.specs.Rules.{Rulebook, Standing, verdict, step}
 use Rattle.script.specs.declared.Position.{Position}
 use Rattle.script.specs.declared.Request.{Request}
 use Rattle.script.specs.declared.Request.TheVariants.{Instruct, Register, Cash}
-use Rattle.examination.specs.declared.Answer.{Answer}
-use Rattle.examination.specs.declared.Answer.TheVariants.{Done, Held, Refused}
+
+-- the answer to a line: nothing more where an instruction was accepted, the amounts of a question, or the fault
+abbrev pub Answer : Type 0
+Answer = Result (Option Holding) Fault
 
 abbrev pub verdict_reply : Result (Unit {0}) Fault → Answer
-verdict_reply (Ok u) = Done
-verdict_reply (Err f) = Refused f
+verdict_reply (Ok u) = Ok None
+verdict_reply (Err f) = Err f
 
 abbrev pub held_reply : Result Holding Refusal → Answer
-held_reply (Ok f) = Held f
-held_reply (Err r) = Refused (plain r)
+held_reply (Ok f) = Ok (Some f)
+held_reply (Err r) = Err (plain r)
 
 -- a question of a position in a book
 abbrev pub holding_reply : BookKind → Holdings → Position → Answer
@@ -31,7 +33,7 @@ abbrev pub reply : Rulebook → Standing → Result Request Refusal → Answer
 reply h s (Ok (Instruct x)) = verdict_reply (verdict h s x)
 reply h s (Ok (Register p)) = holding_reply (h.kind securities) (s.book securities) p
 reply h s (Ok (Cash p)) = holding_reply (h.kind cash) (s.book cash) p
-reply h s (Err r) = Refused (plain r)
+reply h s (Err r) = Err (plain r)
 
 -- only an instruction moves the ledger
 abbrev pub moved : Rulebook → Standing → Result Request Refusal → Standing
@@ -42,6 +44,6 @@ moved h s (Err r) = s
 
 -- a line that is not answered with a plain 0 leaves the ledger as it was, wherever it stood
 abbrev pub KeptUnlessDone : Answer → Standing → Standing → Type 0
-KeptUnlessDone Done before after = Unit {0}
-KeptUnlessDone (Held f) before after = after ≡ before
-KeptUnlessDone (Refused f) before after = after ≡ before
+KeptUnlessDone (Ok None) before after = Unit {0}
+KeptUnlessDone (Ok (Some f)) before after = after ≡ before
+KeptUnlessDone (Err f) before after = after ≡ before

@@ -1,13 +1,14 @@
 // An examination: a script of lines is answered one after another over a ledger, and the answers are the key.
 #![tactic(auto)]
 
-ghost use Rattle.std.specs.Prelude.{◌≡◌, Ok, Err};
+ghost use Rattle.std.specs.Prelude.{◌≡◌, MatchResult, string_bytes};
 ghost use Rattle.ledger.specs.View.{rulebook, standing_of};
 ghost use Rattle.script.specs.Requests.{request_in};
-ghost use Rattle.script.specs.Feeds.{lines_of};
-ghost use Rattle.examination.specs.Replies.{reply, moved, held_reply, KeptUnlessDone};
+ghost use Rattle.examination.specs.Replies.{reply, moved, KeptUnlessDone};
 ghost use Rattle.examination.specs.Key.{Keyed, Stopped};
+ghost use Rattle.examination.specs.Texts.{Printed};
 
+mod stop;
 pub mod text;
 
 use answers::{Fault, Refusal};
@@ -15,35 +16,15 @@ use book::{Book, Holding};
 use ledger::Ledger;
 use script::{Lines, Request, read_line};
 use std::alloc::Global;
+pub use stop::Stop;
+use text::{key_text, refusal_text};
 
 // The most bytes that a script may have.
 const LONGEST: usize = 65536;
 
-// What one line is answered.
-#[derive(Clone, Copy)]
-pub enum Answer {
-    // the instruction was accepted
-    Done,
-    // a question, with the amounts
-    Held(Holding),
-    Refused(Fault),
-}
-
-// Why a script got no key.
-#[derive(Clone, Copy)]
-pub enum Stop {
-    Refused(Refusal),
-    NoMemory,
-}
-
-fn held(answer: Result<Holding, Refusal>) -> Answer
-    ensures { result ≡ held_reply answer }
-{
-    match answer {
-        Ok(holding) => Answer::Held(holding),
-        Err(refusal) => Answer::Refused(Fault::plain(refusal)),
-    }
-}
+// What one line is answered: nothing more where an instruction was accepted, the amounts that a question asks for,
+// or the fault.
+pub type Answer = Result<Option<Holding>, Fault>;
 
 // Reads one line and does what it asks for.
 pub fn answer_line<R: Book, C: Book>(ledger: &mut Ledger<R, C>, line: &[u8]) -> Answer
@@ -51,14 +32,19 @@ pub fn answer_line<R: Book, C: Book>(ledger: &mut Ledger<R, C>, line: &[u8]) -> 
     ensures after { standing_of ledger.new ≡ moved (rulebook R.fixed C.fixed) (standing_of ledger.old) (request_in line.now) }
     ensures kept { KeptUnlessDone result (standing_of ledger.old) (standing_of ledger.new) }
 {
-    match read_line(line) {
-        Ok(Request::Instruct(x)) => match ledger.instruct(&x) {
-            Ok(()) => Answer::Done,
-            Err(fault) => Answer::Refused(fault),
-        },
-        Ok(Request::Register(position)) => held(ledger.securities(position.account, position.item)),
-        Ok(Request::Cash(position)) => held(ledger.money(position.account, position.item)),
-        Err(refusal) => Answer::Refused(Fault::plain(refusal)),
+    match read_line(line)? {
+        Request::Instruct(x) => {
+            ledger.instruct(&x)?;
+            Ok(None)
+        }
+        Request::Register(position) => {
+            let held = ledger.securities(position.account, position.item)?;
+            Ok(Some(held))
+        }
+        Request::Cash(position) => {
+            let held = ledger.money(position.account, position.item)?;
+            Ok(Some(held))
+        }
     }
 }
 
@@ -69,19 +55,39 @@ pub fn answer_script<R: Book, C: Book>(
     ledger: &mut Ledger<R, C>,
     script: &[u8],
 ) -> Result<Vec<Answer>, Stop>
-    ensures { elim result [ Ok v ↦ Keyed (rulebook R.fixed C.fixed) (standing_of ledger.new) script.now v.items | Err stop ↦ Stopped (rulebook R.fixed C.fixed) (standing_of ledger.old) (standing_of ledger.new) script.now stop ] }
+    ensures {
+            MatchResult result
+                (λ answers. Keyed (rulebook R.fixed C.fixed) (standing_of ledger.new) script.now answers.items)
+                (λ stop. Stopped (rulebook R.fixed C.fixed) (standing_of ledger.old) (standing_of ledger.new) script.now stop)
+        }
 {
     if script.len() > LONGEST {
         return Err(Stop::Refused(Refusal::InputTooLong));
     }
     ledger.clear();
     let mut answers = Vec::new(heap);
-    let mut lines = Lines::new(script);
-    while let Some(line) = lines.next_line() {
-        if answers.reserve(1).is_err() {
-            return Err(Stop::NoMemory);
-        }
+    for line in Lines::new(script) {
+        answers.reserve(1)?;
         answers.push_reserved(answer_line(ledger, line));
     }
     Ok(answers)
+}
+
+// Answers a script, and gives what is to be printed: the whole key, or line 0 where the script is refused.
+pub fn examine<R: Book, C: Book>(
+    heap: Global,
+    ledger: &mut Ledger<R, C>,
+    script: &[u8],
+) -> Result<String, Stop>
+    ensures {
+            MatchResult result
+                (λ text. Printed (rulebook R.fixed C.fixed) (standing_of ledger.old) (standing_of ledger.new) script.now (string_bytes text))
+                (λ stop. stop ≡ Stop.NoMemory)
+        }
+{
+    match answer_script(heap, ledger, script) {
+        Ok(answers) => Ok(key_text(heap, answers.as_slice())?),
+        Err(Stop::Refused(refusal)) => Ok(refusal_text(heap, refusal)?),
+        Err(Stop::NoMemory) => Err(Stop::NoMemory),
+    }
 }

@@ -11,13 +11,13 @@ pub fn line_text(heap: Global, number: usize, answer: &Answer) -> Result<String,
     ensures { IfOk result (λ t. string_bytes t ≡ line_text number answer.now) }
 {
     match answer {
-        Answer::Done => format!(in heap; "{number} 0\n"),
-        Answer::Held(holding) => {
-            let free = holding.free;
-            let blocked = holding.blocked;
+        Ok(None) => format!(in heap; "{number} 0\n"),
+        Ok(Some(held)) => {
+            let free = held.free;
+            let blocked = held.blocked;
             format!(in heap; "{number} 0 {free} {blocked}\n")
         }
-        Answer::Refused(fault) => {
+        Err(fault) => {
             let refusal = fault.number();
             format!(in heap; "{number} {refusal}\n")
         }
@@ -29,10 +29,8 @@ pub fn key_text(heap: Global, answers: &[Answer]) -> Result<String, AllocError>
     ensures { IfOk result (λ t. string_bytes t ≡ key_text 1 answers.now) }
 {
     let mut text = String::new(heap);
-    let mut number = 0usize;
-    for answer in answers {
-        number += 1;
-        let line = line_text(heap, number, answer)?;
+    for (before, answer) in answers.iter().enumerate() {
+        let line = line_text(heap, before + 1, answer)?;
         text.push_str(line.as_str())?;
     }
     Ok(text)

@@ -19,9 +19,10 @@ kind_at n =
     cond (n == 1) (Some Issue) (cond (n == 2) (Some PayIn) (cond (n == 3) (Some Enter) (cond (n == 4) (Some Earmark)
     (cond (n == 5) (Some Fund) (cond (n == 6) (Some Settle) (cond (n == 7) (Some Free) None))))))
 
--- the kind that a kind byte means, or the refusal of one that means none
-abbrev pub kind_in : ℕ → Result Kind Refusal
-kind_in n = elim (kind_at n) [ Some k ↦ Ok k | None ↦ Err UnknownKind ]
+-- reading a kind byte gives the kind that it means, or is refused where it means none
+abbrev pub Decodes : ℕ → Result Kind Refusal → Type 0
+Decodes n (Ok k) = kind_at n ≡ Some k
+Decodes n (Err r) = (kind_at n ≡ None) × (r ≡ UnknownKind)
 
 -- a kind is read off its own code, and off no other
 pub record KindsAndCodes : Type 0 where

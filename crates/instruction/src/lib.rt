@@ -2,7 +2,7 @@
 #![tactic(auto)]
 
 ghost use Rattle.std.specs.Prelude.{◌≡◌, ◌+◌, ◌≤◌, length, Ok};
-ghost use Rattle.instruction.specs.Kinds.{code_of, kind_in, KindsAndCodes};
+ghost use Rattle.instruction.specs.Kinds.{code_of, Decodes, KindsAndCodes};
 ghost use Rattle.instruction.specs.Layout.{bytes_of, instruction_in, field, Reads};
 
 use answers::Refusal;
@@ -36,7 +36,7 @@ impl From<Kind> for u8 {
 impl TryFrom<u8> for Kind {
     type Error = Refusal;
 
-    ghost try_from_gives = { λ code kind. kind ≡ kind_in code };
+    ghost try_from_gives = { Decodes };
 
     fn try_from(code: u8) -> Result<Kind, Refusal> {
         match code {

@@ -144,7 +144,7 @@ impl<R: Book, C: Book> Parts<R, C> {
             (λ kind. (kind_at x.now.kind ≡ Some kind) × (verdict (rulebook R.fixed C.fixed) (standing_in R.holdings C.holdings self.now) x.now ≡ Ok tt))
             (λ fault. verdict (rulebook R.fixed C.fixed) (standing_in R.holdings C.holdings self.now) x.now ≡ Err fault) }
     {
-        let kind = Kind::from_code(x.kind).ok_or(Fault::plain(Refusal::UnknownKind))?;
+        let kind = Kind::try_from(x.kind)?;
         self.ruling(kind, x)
             .map_err(|refusal| fault_of(x, refusal))?;
         Ok(kind)

@@ -1,7 +1,11 @@
 -- The lines of a text: one after the other, and all put together again. Assumes nothing.
-use Rattle.std.proofs.Common.{◌≡◌, ℕ, suc, ◌+◌, ◌<◌, eqb, List, [], ◌∷◌, ◌++◌, length, take, drop, sym, refl, ap, ◌∙◌, ⊎_elim, arith}
+use Rattle.std.proofs.Common.{◌≡◌, ℕ, suc, ◌+◌, ◌<◌, eqb, List, [], ◌∷◌, ◌++◌, length, take, drop, sym, refl, ap, ◌∙◌, Some, None, Option, ⊎_elim, arith, rules}
+use Rattle.std.specs.Borrow.{Bor}
+use Rattle.std.specs.Option.{unwrap_or}
+use Rattle.std.specs.Slice.{IsGetRangeResult}
 use Rattle.std.specs.List.{prefix_len, flat_map, AllByRecursion}
 use Rattle.std.proofs.lemmas.Bool.{eqb-true, eqb-false, cases_Bool}
+use Rattle.std.proofs.lemmas.List.{take_all}
 use Rattle.script.specs.Feeds.{in_line, first_line, after_line, on_first, lines_of, closed, Splits}
 
 pub lines_of-none : lines_of [] ≡ []
@@ -21,6 +25,11 @@ more-cons c (d ∷ ds) =
 pub drop-none : (xs : List ℕ) → length xs ≡ 0 → drop 1 xs ≡ xs
 drop-none [] h = refl
 drop-none (x ∷ xs) h = absurd (omega arith)
+
+-- what `get(1..)` gives, or all where it gives nothing
+pub after-one : (xs ys : Bor (List ℕ)) (r : Option (Bor (List ℕ))) → IsGetRangeResult xs.now 1 (length xs.now) r → ys ≡ unwrap_or r xs → ys.now ≡ drop 1 xs.now
+after-one xs ys (Some x) h e = ap (λ b. b.now) e ∙ search (rules, take_all)
+after-one xs ys None h e = ap (λ b. b.now) e ∙ sym (drop-none xs.now (omega arith))
 
 -- a text that is not empty has its first line, and then the lines of what follows that
 pub lines_of-more : (bs : List ℕ) → 0 < length bs → lines_of bs ≡ first_line bs ∷ lines_of (after_line bs)

@@ -1,5 +1,6 @@
 -- The fields of a line, against their text. Assumes nothing.
-use Rattle.std.proofs.Common.{◌≡◌, ℕ, zero, suc, ◌+◌, ◌^◌, ◌<◌, ◌≤◌, Bool, true, false, cond, eqb, leb, List, [], ◌∷◌, ◌++◌, length, get_or, take, drop, Some, None, decimal, Option, sym, refl, ap, ◌∙◌, subst, arith}
+use Rattle.std.proofs.Common.{◌≡◌, ℕ, zero, suc, ◌+◌, ◌^◌, ◌<◌, ◌≤◌, Bool, true, false, eqb, leb, List, [], ◌∷◌, ◌++◌, length, get_or, take, drop, Some, None, decimal, Option, sym, refl, ap, ◌∙◌, subst, arith}
+use Rattle.std.specs.Bool.{then_some}
 use Rattle.std.specs.List.{prefix_len, AllByRecursion}
 use Rattle.std.proofs.lemmas.Bool.{lt-leb, eqb-true, ne_eqb, and_left}
 use Rattle.std.proofs.lemmas.List.{take-append-drop, take_at, drop_at, nil_from_length}
@@ -10,7 +11,7 @@ use Rattle.script.proofs.Num.{AllDigits, own, digit-yes, sound, complete}
 
 -- a text begins with its first word
 abbrev pub Seen : List ℕ → Word → Type 0
-Seen bs (letter l) = (c : ℕ) × (l ≡ c ∷ []) × (bs ≡ c ∷ after bs)
+Seen bs (letter c) = bs ≡ c ∷ after bs
 Seen bs (digits ds) = bs ≡ ds ++ after bs
 Seen bs space = bs ≡ 32 ∷ after bs
 Seen bs other = Unit {0}
@@ -19,7 +20,7 @@ Seen bs end = bs ≡ []
 some-cons : (c : ℕ) (cs : List ℕ) → eqb (length (c ∷ cs)) 0 ≡ false
 some-cons c cs = ne_eqb (length (c ∷ cs)) 0 (λ e. omega arith)
 
-pub first-letter : (c : ℕ) (cs : List ℕ) → is_letter c ≡ true → (first_word (c ∷ cs) ≡ letter (c ∷ [])) × (after (c ∷ cs) ≡ cs)
+pub first-letter : (c : ℕ) (cs : List ℕ) → is_letter c ≡ true → (first_word (c ∷ cs) ≡ letter c) × (after (c ∷ cs) ≡ cs)
 first-letter c cs l = let z = some-cons c cs in (rw (z, l), rw (z, l))
 
 first-space : (cs : List ℕ) → (first_word (32 ∷ cs) ≡ space) × (after (32 ∷ cs) ≡ cs)
@@ -28,7 +29,7 @@ first-space cs = let z = some-cons 32 cs in (rw z, rw z)
 seen_by : (c : ℕ) (cs : List ℕ) (l d s : Bool) → is_letter c ≡ l → is_digit c ≡ d → eqb c 32 ≡ s → Seen (c ∷ cs) (first_word (c ∷ cs))
 seen_by c cs true d s p q r =
     let f = first-letter c cs p in
-    subst (Seen (c ∷ cs)) (sym f.0) (c, refl, ap (λ x. c ∷ x) (sym f.1))
+    subst (Seen (c ∷ cs)) (sym f.0) (ap (λ x. c ∷ x) (sym f.1))
 seen_by c cs false true s p q r =
     let z = some-cons c cs in
     let n = 1 + prefix_len is_digit cs in
@@ -118,7 +119,7 @@ Within (n ∷ ns) (m ∷ ms) = (n ≤ m) × Within ns ms
 abbrev Sound : List ℕ → List ℕ → List ℕ → Type 0
 Sound ms bs ns = (bs ≡ fields_text ns) × Within ns ms
 
-done : (bs ns : List ℕ) (b : Bool) → eqb (length bs) 0 ≡ b → cond b (Some []) None ≡ Some ns → Sound [] bs ns
+done : (bs ns : List ℕ) (b : Bool) → eqb (length bs) 0 ≡ b → then_some b [] ≡ Some ns → Sound [] bs ns
 done bs ns true t e = let z : [] ≡ ns = cc in subst (Sound [] bs) z (nil_from_length bs (eqb-true (length bs) 0 t), tt)
 done bs ns false t e = absurd (none-some ns e)
 

@@ -1,44 +1,40 @@
-use Rattle.std.proofs.Common.{◌≡◌, ℕ, ◌+◌, ◌-◌, ◌*◌, ◌^◌, ◌<◌, ◌≤◌, true, false, eqb, leb, List, [], ◌∷◌, length, get_or, Some, None, decimal, Option, sym, refl, ap, ◌∙◌, ⊎_elim, arith, rules, eq-eqb, ne_eqb, le-leb}
-use Rattle.std.proofs.lemmas.Bool.{lt-leb, leb-true, eqb-true, eqb-false, and_parts, and_from, and_left, and_right, cases_Bool, cases_lt}
-use Rattle.std.proofs.lemmas.Str.Parse.{IsNumeralModel, numerals_by_fold}
-use Rattle.std.proofs.lemmas.Fmt.{decimal-digits_value, digits_decimal, digits_value-decimal, decimal_nonempty, first_decimal, decimal_digit}
+use Rattle.std.proofs.Common.{◌≡◌, ℕ, ◌+◌, ◌-◌, ◌*◌, ◌^◌, ◌<◌, ◌≤◌, true, eqb, leb, List, [], ◌∷◌, length, get_or, Some, None, Ok, Err, decimal, Option, Result, sym, refl, ap, ◌∙◌, subst, lit<, ⊎_elim, arith, rules, eq-eqb, ne_eqb, le-leb}
+use Rattle.std.proofs.lemmas.Bool.{lt-leb, eqb-true, eqb-false, and_from, and_left, and_right, cases_Bool, cases_lt}
+use Rattle.std.specs.Bool.{then_some}
+use Rattle.std.specs.Result.{result_ok}
+use Rattle.std.specs.Str.{IsAscii, IsUtf8}
+use Rattle.std.specs.Str.Parse.{ParsesUnsigned}
+use Rattle.std.proofs.lemmas.Str.{IsUtf8-from_ascii}
+use Rattle.std.proofs.lemmas.Str.Parse.{IsNumeralModel, numerals_by_fold, parse_plain}
+use Rattle.std.proofs.lemmas.Fmt.{IsAscii-decimal, parse-decimal, decimal_injective, decimal-digits_value, digits_decimal, digits_value-decimal, decimal_nonempty, first_decimal, decimal_digit}
 use Rattle.script.specs.Words.{is_digit}
 use Rattle.script.specs.Numerals.{numeral_from, numeral, ReadsNumber}
+use Rattle.script.specs.Requests.{then}
 
 pub digit-yes : (c : ℕ) → 48 ≤ c → c ≤ 57 → is_digit c ≡ true
 digit-yes c h k = and_from (leb 48 c) (leb c 57) (le-leb 48 c h) (le-leb c 57 k)
 
-pub turn : (most n c : ℕ) (cs : List ℕ) → 48 ≤ c → c ≤ 57 → n * 10 + (c - 48) ≤ most → numeral_from most n (c ∷ cs) ≡ numeral_from most (n * 10 + (c - 48)) cs
+turn : (most n c : ℕ) (cs : List ℕ) → 48 ≤ c → c ≤ 57 → n * 10 + (c - 48) ≤ most → numeral_from most n (c ∷ cs) ≡ numeral_from most (n * 10 + (c - 48)) cs
 turn most n c cs h k l = let a = digit-yes c h k in let b = le-leb (n * 10 + (c - 48)) most l in rw (a, b)
 
-pub digit-bounds : (c : ℕ) → is_digit c ≡ true → (48 ≤ c) × (c ≤ 57)
-digit-bounds c e = let p = and_parts (leb 48 c) (leb c 57) e in (leb-true 48 c p.0, leb-true c 57 p.1)
-
-pub stray : (most n c : ℕ) (cs : List ℕ) → is_digit c ≡ false → numeral_from most n (c ∷ cs) ≡ None
-stray most n c cs e = rw e
-
-pub low : (most n c : ℕ) (cs : List ℕ) → c < 48 → numeral_from most n (c ∷ cs) ≡ None
+low : (most n c : ℕ) (cs : List ℕ) → c < 48 → numeral_from most n (c ∷ cs) ≡ None
 low most n c cs h = let a = and_left (leb 48 c) (leb c 57) (lt-leb 48 c h) in rw a
 
-pub high : (most n c : ℕ) (cs : List ℕ) → 57 < c → numeral_from most n (c ∷ cs) ≡ None
+high : (most n c : ℕ) (cs : List ℕ) → 57 < c → numeral_from most n (c ∷ cs) ≡ None
 high most n c cs h = let a = and_right (leb 48 c) (leb c 57) (lt-leb c 57 h) in rw a
 
-pub over : (most n c : ℕ) (cs : List ℕ) → 48 ≤ c → c ≤ 57 → most < n * 10 + (c - 48) → numeral_from most n (c ∷ cs) ≡ None
+over : (most n c : ℕ) (cs : List ℕ) → 48 ≤ c → c ≤ 57 → most < n * 10 + (c - 48) → numeral_from most n (c ∷ cs) ≡ None
 over most n c cs h k l = let a = digit-yes c h k in let b = lt-leb (n * 10 + (c - 48)) most l in rw (a, b)
 
-pub start : (most : ℕ) (ds : List ℕ) → 0 < length ds → (1 < length ds → get_or ds 0 0 ≡ 48 → ⊥) → numeral_from most 0 ds ≡ numeral most ds
+start : (most : ℕ) (ds : List ℕ) → 0 < length ds → (1 < length ds → get_or ds 0 0 ≡ 48 → ⊥) → numeral_from most 0 ds ≡ numeral most ds
 start most [] h z = absurd (omega arith)
 start most (c ∷ []) h z = refl
 start most (c ∷ d ∷ cs) h z = let a = ne_eqb c 48 (z (omega arith)) in sym (rw a)
 
-pub zero-first : (most : ℕ) (ds : List ℕ) → 1 < length ds → get_or ds 0 0 ≡ 48 → numeral most ds ≡ None
+zero-first : (most : ℕ) (ds : List ℕ) → 1 < length ds → get_or ds 0 0 ≡ 48 → numeral most ds ≡ None
 zero-first most [] h z = refl
 zero-first most (c ∷ []) h z = absurd (omega arith)
 zero-first most (c ∷ d ∷ cs) h z = let a = eq-eqb c 48 z in rw a
-
-pub empty : (most : ℕ) (ds : List ℕ) → length ds ≡ 0 → numeral most ds ≡ None
-empty most [] h = refl
-empty most (c ∷ cs) h = absurd (omega arith)
 
 -- one's own words for the shelf
 abbrev pub read_on : ℕ → List ℕ → ℕ
@@ -106,7 +102,46 @@ complete most n h l =
     sym (start most (decimal n) (decimal_nonempty n k) (no_zero (decimal n) n k refl))
     ∙ from-complete most 0 (decimal n) (digits_decimal own n k) (omega arith) ∙ ap (λ m. Some m) v
 
+no-other : {X : Type 0} (o : Option X) → ((x : X) → o ≡ Some x → ⊥) → None ≡ o
+no-other None h = refl
+no-other (Some x) h = absurd (h x refl)
+
 pub reads-number : (most : ℕ) (bs : List ℕ) (r : Option ℕ) → most < 2 ^ 64 → r ≡ numeral most bs → ReadsNumber most bs r
 reads-number most bs (Some n) h e = sound most n bs h (sym e)
-reads-number most bs None h e =
-    λ n l d. let y : None ≡ Some n = e ∙ ap (numeral most) d ∙ complete most n h l in let z : ◌≡◌ {A = ℕ} 0 1 = cc in omega arith
+reads-number most bs None h e = λ n l d. absurd (let y : None ≡ Some n = e ∙ ap (numeral most) d ∙ complete most n h l in cc)
+
+-- what is read is one thing
+pub numeral-only : (most : ℕ) (bs : List ℕ) (r : Option ℕ) → most < 2 ^ 64 → ReadsNumber most bs r → r ≡ numeral most bs
+numeral-only most bs (Some n) h e = sym (ap (numeral most) e.0 ∙ complete most n h e.1)
+numeral-only most bs None h e = no-other (numeral most bs) (λ n z. let p = sound most n bs h z in e n p.1 p.0)
+
+-- a smaller limit
+below : (most n : ℕ) (bs : List ℕ) → most < 2 ^ 64 → bs ≡ decimal n → n < 2 ^ 64 → ReadsNumber most bs (then_some (leb n most) n)
+below most n bs h e s =
+    ⊎_elim
+    (λ o. let f = lt-leb n most o in rw f (λ m l d. let z : n ≡ m = decimal_injective n m s (omega arith) (sym e ∙ d) in omega arith))
+    (λ k. let f = le-leb n most k in rw f (e, k))
+    (cases_lt most n)
+
+reads-below : (most : ℕ) (bs : List ℕ) (o : Option ℕ) → most < 2 ^ 64 → ReadsNumber 18446744073709551615 bs o → ReadsNumber most bs (then o (λ n. then_some (leb n most) n))
+reads-below most bs (Some n) h e = below most n bs h e.0 (omega (arith, e.1))
+reads-below most bs None h e = λ n l. e n (omega arith)
+
+pub number-below : (most : ℕ) (bs : List ℕ) → most < 2 ^ 64 → ReadsNumber most bs (then (numeral 18446744073709551615 bs) (λ n. then_some (leb n most) n))
+number-below most bs h = reads-below most bs _ h (reads-number 18446744073709551615 bs _ (lit< tt) refl)
+
+pub numeral-below : (most : ℕ) (bs : List ℕ) → most < 2 ^ 64 → then (numeral 18446744073709551615 bs) (λ n. then_some (leb n most) n) ≡ numeral most bs
+numeral-below most bs h = numeral-only most bs _ h (number-below most bs h)
+
+-- a first digit that is not zero, or zero alone
+abbrev pub Plain : List ℕ → Type 0
+Plain bs = (0 < length bs) × (48 ≤ get_or bs 0 0) × (get_or bs 0 0 ≤ 57) × (get_or bs 0 0 ≡ 48 → length bs ≡ 1)
+
+pub parsed : {E : Type 0} (bs : List ℕ) (r : Result ℕ E) → Plain bs → ParsesUnsigned 64 10 bs r → ReadsNumber 18446744073709551615 bs (result_ok r)
+parsed {E} bs (Ok n) p h =
+    let q = parse_plain own {E = E} 64 bs (Ok n) h (λ e. omega (arith, p.1)) in
+    (sym (ap decimal q.1 ∙ decimal-digits_value own bs q.0.0 p.0 p.3 q.0.2), omega (arith, q.0.2, q.1))
+parsed bs (Err e) p h = λ n l d. absurd (let z = parse-decimal 64 n bs (Err e) (omega arith) (omega arith) d h in cc)
+
+pub no-text : (bs : List ℕ) → (IsUtf8 bs → ⊥) → ReadsNumber 18446744073709551615 bs None
+no-text bs h = λ n l d. h (IsUtf8-from_ascii bs (subst IsAscii (sym d) (IsAscii-decimal n (omega arith))))

@@ -215,8 +215,7 @@ for-good c bs q false false None x y z e = absurd (none-some q e)
 
 after-good : (bs : List ℕ) (q : Request) (w : Word) → Seen bs w → request_after w (after bs) ≡ Some q → Good bs q
 after-good bs q (letter l) s e =
-    let f = for-good s.0 (after bs) q (eqb s.0 81) (eqb s.0 75) (kind_for s.0) refl refl refl (ap (λ l. request_for (get_or l 0 0) (after bs)) (sym s.1) ∙ e) in
-    (f.0, f.1 ∙ sym s.2)
+    let f = for-good l (after bs) q (eqb l 81) (eqb l 75) (kind_for l) refl refl refl e in (f.0, f.1 ∙ sym s)
 after-good bs q (digits ds) s e = absurd (none-some q e)
 after-good bs q space s e = absurd (none-some q e)
 after-good bs q other s e = absurd (none-some q e)

@@ -1,4 +1,5 @@
 pub mod Words
 pub mod Numerals
 pub mod Feeds
+pub mod Left
 pub mod Requests

@@ -1,5 +1,6 @@
 -- The lines of a script. Assumes nothing.
 use Rattle.std.specs.Prelude.{◌≡◌, ℕ, ◌^◌, ◌<◌, cond, List, [], ◌∷◌, length, Some, None, Ok, Err, decimal, Option, Result, ◌==◌, ◌≢◌, slice_index}
+use Rattle.std.specs.Bool.{then_some}
 use Rattle.std.specs.List.{flat_map, AllByRecursion}
 use Rattle.answers.specs.declared.Refusal.{Refusal}
 use Rattle.answers.specs.declared.Refusal.TheVariants.{UnlistedLine}
@@ -40,9 +41,13 @@ abbrev pub then : {X Y : Type 0} → Option X → (X → Option Y) → Option Y
 then (Some x) f = f x
 then None f = None
 
+-- what was read, if a line ends there
+abbrev pub ended : {X : Type 0} → List ℕ → X → Option X
+ended bs x = then_some (length bs == 0) x
+
 -- the numbers of fields, each at most what is given for it, and then the end of the line
 abbrev pub fields_of : List ℕ → List ℕ → Option (List ℕ)
-fields_of [] bs = cond (length bs == 0) (Some []) None
+fields_of [] bs = ended bs []
 fields_of (m ∷ ms) bs = then (field_of m bs) (λ n. then (fields_of ms (past bs)) (λ ns. Some (n ∷ ns)))
 
 -- the most that each field of a kind may be, in order
@@ -106,7 +111,7 @@ request_for c bs =
     (then (kind_for c) (λ k. then (instruction_of k bs) (λ i. Some (Instruct i)))))
 
 abbrev pub request_after : Word → List ℕ → Option Request
-request_after (letter l) bs = request_for (slice_index l 0) bs
+request_after (letter l) bs = request_for l bs
 request_after (digits ds) bs = None
 request_after space bs = None
 request_after other bs = None

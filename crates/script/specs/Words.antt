@@ -12,14 +12,14 @@ is_letter c = nat_le 65 c && nat_le c 90
 
 -- what a token is, without where it lies
 pub data Word : Type 0 where
-  letter : List ℕ → Word
+  letter : ℕ → Word
   digits : List ℕ → Word
   space : Word
   other : Word
   end : Word
 
 abbrev pub word : Token → Word
-word (Letter p) = letter p.now
+word (Letter c) = letter c
 word (Digits p) = digits p.now
 word Space = space
 word Other = other
@@ -29,7 +29,7 @@ word End = end
 abbrev pub first_word : List ℕ → Word
 first_word bs =
     cond (length bs == 0) end
-    (cond (is_letter (slice_index bs 0)) (letter (take 1 bs))
+    (cond (is_letter (slice_index bs 0)) (letter (slice_index bs 0))
     (cond (is_digit (slice_index bs 0)) (digits (take (prefix_len is_digit bs) bs))
     (cond (slice_index bs 0 == 32) space other)))
 

@@ -1,32 +1,75 @@
 // The reader of examination scripts: a script's lines, a line's tokens, and the request that a line makes.
 #![tactic(auto)]
 
-ghost use Rattle.std.specs.Prelude.{◌≡◌, ◌<◌, ◌≤◌, true, [], ◌∷◌, length, take, drop, is_some, IfSome, Some, MatchOption, ◌==◌, slice_index};
+ghost use Rattle.std.specs.Prelude.{◌≡◌, ◌^◌, ◌<◌, ◌≤◌, ℕ, Result, true, [], ◌∷◌, length, take, drop, is_some, IfSome, Some, None, MatchOption, ◌==◌, nat_le};
 ghost use Rattle.std.specs.List.{prefix_len};
-ghost use Rattle.instruction.specs.declared.Kind.TheVariants.{Issue, PayIn, Enter};
+ghost use Rattle.std.specs.Bool.{then_some};
+ghost use Rattle.std.specs.Option.{option_map};
+ghost use Rattle.std.specs.Result.{result_ok};
+ghost use Rattle.std.specs.Iterator.{YieldsFirstRef, item_count};
+ghost use Rattle.std.proofs.Common.{lit<, rules};
+ghost use Rattle.std.specs.declared.num.TryFromIntError.{TryFromIntError};
 ghost use Rattle.script.specs.Words.{is_digit, word, first_word, word_length};
 ghost use Rattle.script.specs.Numerals.{numeral, ReadsNumber};
 ghost use Rattle.script.specs.Feeds.{in_line, first_line, after_line, lines_of, Splits};
-ghost use Rattle.script.specs.Requests.{field_of, past, then, fields_of, on_trade, instruction_of, position_of, kind_for, request_of, request_in, ReadsLine};
+ghost use Rattle.script.specs.Requests.{field_of, past, then, ended, on_trade, instruction_of, position_of, kind_for, request_of, request_in, ReadsLine};
 
 use answers::Refusal;
 use instruction::{Instruction, Kind};
-
-// The most that a field of so many bits holds.
-const MOST16: u64 = 0xffff;
-
-const MOST32: u64 = 0xffff_ffff;
-
-const MOST64: u64 = 0xffff_ffff_ffff_ffff;
+use std::num::TryFromIntError;
 
 // A part of a line. A letter is one of A to Z, and digits are as many as follow one another.
 #[derive(Clone, Copy)]
 pub enum Token<'a> {
-    Letter(&'a [u8]),
+    Letter(u8),
     Digits(&'a [u8]),
     Space,
     Other,
     End,
+}
+
+// The types of a field's number. The width of a field is that of its type.
+trait Width: TryFrom<u64, Error = TryFromIntError> {
+    // The most that the type holds.
+    ghost most: { ℕ };
+
+    // The number that a value is.
+    ghost number: { Self → ℕ };
+
+    ghost narrow: { most < 2 ^ 64 };
+
+    // A number becomes a value exactly where the type holds it.
+    ghost holds: { (n : ℕ) (r : Result Self TryFromIntError) → Self.try_from_gives n r → option_map number (result_ok r) ≡ then_some (nat_le n most) n };
+}
+
+impl Width for u16 {
+    ghost most = { 65535 };
+
+    ghost number = { λ n. n };
+
+    ghost narrow = { lit< tt };
+
+    ghost holds = { Prim.search rules };
+}
+
+impl Width for u32 {
+    ghost most = { 4294967295 };
+
+    ghost number = { λ n. n };
+
+    ghost narrow = { lit< tt };
+
+    ghost holds = { Prim.search rules };
+}
+
+impl Width for u64 {
+    ghost most = { 18446744073709551615 };
+
+    ghost number = { λ n. n };
+
+    ghost narrow = { lit< tt };
+
+    ghost holds = { Prim.search rules };
 }
 
 // What is left of a line.
@@ -46,71 +89,43 @@ impl<'a> Tokens<'a> {
         ensures token { word result ≡ first_word self.old.rest.now }
         ensures left { self.new.rest.now ≡ drop (word_length self.old.rest.now) self.old.rest.now }
     {
-        let [first, ..] = self.rest else {
+        let [first, after @ ..] = self.rest else {
             return Token::End;
         };
-        match *first {
-            b'A'..=b'Z' => Token::Letter(self.cut(1)),
-            b'0'..=b'9' => Token::Digits(self.cut(digit_count(self.rest))),
-            b' ' => {
-                self.cut(1);
-                Token::Space
+        let (token, after) = match *first {
+            letter @ b'A'..=b'Z' => (Token::Letter(letter), after),
+            b'0'..=b'9' => {
+                let (digits, after) = self.rest.split_at(digit_count(self.rest));
+                (Token::Digits(digits), after)
             }
-            _ => {
-                self.cut(1);
-                Token::Other
-            }
-        }
+            b' ' => (Token::Space, after),
+            _ => (Token::Other, after),
+        };
+        self.rest = after;
+        token
     }
 
-    // A space and a number of at most `most`.
-    fn field(&mut self, most: u64) -> Option<u64>
-        ensures value { result ≡ field_of most self.old.rest.now }
-        ensures bound { IfSome result (λ n. n ≤ most) }
+    // A space and a number.
+    fn field<T: Width>(&mut self) -> Option<T>
+        ensures value { option_map T.number result ≡ field_of T.most self.old.rest.now }
         ensures left { is_some result ≡ true → self.new.rest.now ≡ past self.old.rest.now }
     {
         let Token::Space = self.next_token() else {
             return None;
         };
-        match self.next_token() {
-            Token::Digits(digits) => number(digits, most),
-            _ => None,
-        }
+        let Token::Digits(digits) = self.next_token() else {
+            return None;
+        };
+        T::try_from(number(digits, u64::MAX)?).ok()
     }
-
-    fn is_done(&self) -> bool
-        ensures { result ≡ (length self.now.rest.now == 0) }
-    {
-        self.rest.is_empty()
-    }
-
-    // Takes the first `size` bytes off.
-    fn cut(&mut self, size: usize) -> &'a [u8]
-        requires { size ≤ length self.old.rest.now }
-        ensures front { result.now ≡ take size self.old.rest.now }
-        ensures left { self.new.rest.now ≡ drop size self.old.rest.now }
-    {
-        let (front, back) = self.rest.split_at(size);
-        self.rest = back;
-        front
-    }
-}
-
-fn is_digit(b: u8) -> bool
-    ensures { result ≡ is_digit b }
-{
-    b >= b'0' && b <= b'9'
 }
 
 // How many digits a text begins with.
 fn digit_count(s: &[u8]) -> usize
-    ensures { result ≡ prefix_len is_digit s.now }
+    ensures value { result ≡ prefix_len is_digit s.now }
+    ensures within { result ≤ length s.now }
 {
-    let mut n = 0;
-    while n < s.len() && is_digit(s[n]) {
-        n += 1;
-    }
-    n
+    s.iter().take_while(|b| b.is_ascii_digit()).count()
 }
 
 // A decimal number of at most `most`, with no leading zero.
@@ -119,24 +134,17 @@ pub fn number(digits: &[u8], most: u64) -> Option<u64>
     ensures bound { IfSome result (λ n. n ≤ most) }
     ensures exact { ReadsNumber most digits.now result }
 {
-    if digits.is_empty() {
+    decimal(digits).filter(|number| *number <= most)
+}
+
+// A decimal number with no leading zero. `parse` alone would take a plus sign and leading zeros.
+fn decimal(digits: &[u8]) -> Option<u64>
+    ensures { result ≡ numeral 18446744073709551615 digits.now }
+{
+    let ([b'0'] | [b'1'..=b'9', ..]) = digits else {
         return None;
-    }
-    if digits.len() > 1 && digits[0] == b'0' {
-        return None;
-    }
-    let mut n = 0u64;
-    for d in digits {
-        if !is_digit(*d) {
-            return None;
-        }
-        let digit = u64::from(*d - b'0');
-        if n > most / 10 || digit > most - n * 10 {
-            return None;
-        }
-        n = n * 10 + digit;
-    }
-    Some(n)
+    };
+    str::from_utf8(digits).ok()?.parse().ok()
 }
 
 // The lines of a script that are left. A line feed ends a line, and may be missing after the last.
@@ -162,17 +170,23 @@ impl<'a> Lines<'a> {
         if self.rest.is_empty() {
             return None;
         }
-        Some(self.cut_line())
-    }
-
-    // Takes the first line off, with its line feed.
-    fn cut_line(&mut self) -> &'a [u8]
-        ensures line { result.now ≡ first_line self.old.rest.now }
-        ensures left { self.new.rest.now ≡ after_line self.old.rest.now }
-    {
         let (line, more) = self.rest.split_at(line_length(self.rest));
-        self.rest = past_first(more);
-        line
+        self.rest = more.get(1..).unwrap_or(more);
+        Some(line)
+    }
+}
+
+impl<'a> Iterator for Lines<'a> {
+    ghost use Rattle.script.specs.Left.{lines_left};
+
+    type Item = &'a [u8];
+
+    ghost next_gives = { YieldsFirstRef lines_left };
+
+    ghost remaining = { item_count lines_left };
+
+    fn next(&mut self) -> Option<&'a [u8]> {
+        self.next_line()
     }
 }
 
@@ -181,21 +195,7 @@ fn line_length(s: &[u8]) -> usize
     ensures value { result ≡ prefix_len in_line s.now }
     ensures within { result ≤ length s.now }
 {
-    let mut n = 0;
-    while n < s.len() && s[n] != b'\n' {
-        n += 1;
-    }
-    n
-}
-
-// All but the first byte, if there is one.
-fn past_first(s: &[u8]) -> &[u8]
-    ensures { result.now ≡ drop 1 s.now }
-{
-    match s {
-        [_, after @ ..] => after,
-        [] => s,
-    }
+    s.iter().take_while(|b| **b != b'\n').count()
 }
 
 // What a line asks for. A position is an account with an item of the register, or with a currency of cash.
@@ -227,41 +227,63 @@ fn read_request(line: &[u8]) -> Option<Request>
     let Token::Letter(letter) = tokens.next_token() else {
         return None;
     };
-    match letter[0] as char {
-        'Q' => Some(Request::Register(read_position(&mut tokens)?)),
-        'K' => Some(Request::Cash(read_position(&mut tokens)?)),
-        letter => {
-            let kind = kind_of(letter)?;
-            Some(Request::Instruct(read_instruction(kind, &mut tokens)?))
-        }
-    }
+    let request = match letter {
+        b'Q' => Request::Register(read_position(&mut tokens)?),
+        b'K' => Request::Cash(read_position(&mut tokens)?),
+        letter => Request::Instruct(read_instruction(kind_of(letter)?, &mut tokens)?),
+    };
+    tokens.rest.is_empty().then_some(request)
 }
 
-fn kind_of(letter: char) -> Option<Kind>
+// The kind of a script's letter. The letters are this crate's, and a `TryFrom` would have to stand beside `Kind`.
+fn kind_of(letter: u8) -> Option<Kind>
     ensures { result ≡ kind_for letter }
 {
     match letter {
-        'I' => Some(Kind::Issue),
-        'D' => Some(Kind::PayIn),
-        'T' => Some(Kind::Enter),
-        'E' => Some(Kind::Earmark),
-        'L' => Some(Kind::Fund),
-        'S' => Some(Kind::Settle),
-        'F' => Some(Kind::Free),
+        b'I' => Some(Kind::Issue),
+        b'D' => Some(Kind::PayIn),
+        b'T' => Some(Kind::Enter),
+        b'E' => Some(Kind::Earmark),
+        b'L' => Some(Kind::Fund),
+        b'S' => Some(Kind::Settle),
+        b'F' => Some(Kind::Free),
         _ => None,
     }
 }
 
-// The fields that the kind uses, in the order of the instruction's bytes.
+// The fields that the kind uses, in the order of the instruction's bytes, and 0 in the others.
 fn read_instruction(kind: Kind, tokens: &mut Tokens) -> Option<Instruction>
-    ensures { result ≡ instruction_of kind tokens.old.rest.now }
+    ensures { instruction_of kind tokens.old.rest.now ≡ then result (ended tokens.new.rest.now) }
 {
-    match kind {
-        Kind::Issue => read_issue(tokens),
-        Kind::PayIn => read_pay_in(tokens),
-        Kind::Enter => read_enter(tokens),
-        Kind::Earmark | Kind::Fund | Kind::Settle | Kind::Free => read_on_trade(kind, tokens),
-    }
+    let instruction = match kind {
+        Kind::Issue => Instruction {
+            account: tokens.field()?,
+            item: tokens.field()?,
+            quantity: tokens.field()?,
+            ..blank(kind)
+        },
+        Kind::PayIn => Instruction {
+            account: tokens.field()?,
+            currency: tokens.field()?,
+            amount: tokens.field()?,
+            ..blank(kind)
+        },
+        Kind::Enter => Instruction {
+            account: tokens.field()?,
+            counterparty: tokens.field()?,
+            item: tokens.field()?,
+            currency: tokens.field()?,
+            trade: tokens.field()?,
+            quantity: tokens.field()?,
+            amount: tokens.field()?,
+            ..blank(kind)
+        },
+        Kind::Earmark | Kind::Fund | Kind::Settle | Kind::Free => Instruction {
+            trade: tokens.field()?,
+            ..blank(kind)
+        },
+    };
+    Some(instruction)
 }
 
 // An instruction with 0 in each field.
@@ -270,97 +292,15 @@ fn blank(kind: Kind) -> Instruction
 {
     Instruction {
         kind: kind.into(),
-        account: 0,
-        counterparty: 0,
-        item: 0,
-        currency: 0,
-        trade: 0,
-        quantity: 0,
-        amount: 0,
+        ..Instruction::default()
     }
-}
-
-fn read_issue(tokens: &mut Tokens) -> Option<Instruction>
-    ensures { result ≡ instruction_of Issue tokens.old.rest.now }
-{
-    let account = tokens.field(MOST16)? as u16;
-    let item = tokens.field(MOST16)? as u16;
-    let quantity = tokens.field(MOST64)?;
-    if !tokens.is_done() {
-        return None;
-    }
-    Some(Instruction {
-        account,
-        item,
-        quantity,
-        ..blank(Kind::Issue)
-    })
-}
-
-fn read_pay_in(tokens: &mut Tokens) -> Option<Instruction>
-    ensures { result ≡ instruction_of PayIn tokens.old.rest.now }
-{
-    let account = tokens.field(MOST16)? as u16;
-    let currency = tokens.field(MOST16)? as u16;
-    let amount = tokens.field(MOST64)?;
-    if !tokens.is_done() {
-        return None;
-    }
-    Some(Instruction {
-        account,
-        currency,
-        amount,
-        ..blank(Kind::PayIn)
-    })
-}
-
-fn read_enter(tokens: &mut Tokens) -> Option<Instruction>
-    ensures { result ≡ instruction_of Enter tokens.old.rest.now }
-{
-    let account = tokens.field(MOST16)? as u16;
-    let counterparty = tokens.field(MOST16)? as u16;
-    let item = tokens.field(MOST16)? as u16;
-    let currency = tokens.field(MOST16)? as u16;
-    let trade = tokens.field(MOST32)? as u32;
-    let quantity = tokens.field(MOST64)?;
-    let amount = tokens.field(MOST64)?;
-    if !tokens.is_done() {
-        return None;
-    }
-    let kind = Kind::Enter.into();
-    Some(Instruction {
-        kind,
-        account,
-        counterparty,
-        item,
-        currency,
-        trade,
-        quantity,
-        amount,
-    })
-}
-
-// One of the kinds that name a trade only.
-fn read_on_trade(kind: Kind, tokens: &mut Tokens) -> Option<Instruction>
-    ensures { result ≡ then (fields_of (4294967295 ∷ []) tokens.old.rest.now) (λ ns. Some (on_trade kind (slice_index ns 0))) }
-{
-    let trade = tokens.field(MOST32)? as u32;
-    if !tokens.is_done() {
-        return None;
-    }
-    Some(Instruction {
-        trade,
-        ..blank(kind)
-    })
 }
 
 fn read_position(tokens: &mut Tokens) -> Option<Position>
-    ensures { result ≡ position_of tokens.old.rest.now }
+    ensures { position_of tokens.old.rest.now ≡ then result (ended tokens.new.rest.now) }
 {
-    let account = tokens.field(MOST16)? as u16;
-    let item = tokens.field(MOST16)? as u16;
-    if !tokens.is_done() {
-        return None;
-    }
-    Some(Position { account, item })
+    Some(Position {
+        account: tokens.field()?,
+        item: tokens.field()?,
+    })
 }

@@ -1,6 +1,6 @@
-use Rattle.std.proofs.Common.{[], ◌∷◌, ◌++◌, vec_items, sym, ap, ◌∙◌, subst, arith}
-use Rattle.script.specs.Feeds.{lines_of}
+use Rattle.std.proofs.Common.{[], ◌∷◌, ◌++◌, vec_items, sym, ap, ◌∙◌, subst, arith, rules}
 use Rattle.ledger.specs.View.{rulebook, standing_of}
+use Rattle.script.specs.Feeds.{lines_of}
 use Rattle.examination.proofs.Course.{Going, going_start, going_more, going_end, going-stop}
 use Rattle.examination.proofs.answer_script.Goals as goal
 
@@ -8,30 +8,36 @@ pub loop-line-init : goal.loop-line-init
 loop-line-init g c =
     let h = rulebook g.R.Book.fixed g.C.Book.fixed in
     let s = standing_of c.clear.new.self in
-    let bs = c.args.script.now in
-    subst (λ rest. Going h bs (vec_items c.new-answers.result) s rest) (sym c.new-lines.ensures)
-    (subst (λ old. Going h bs old s bs) (sym c.new-answers.ensures.items) (going_start h bs s c.clear.ensures))
+    let bs = c.args.script.now in (
+      tt,
+      tt,
+      subst (λ rest. Going h bs (vec_items c.new-answers.result) s rest) (search rules)
+          (subst (λ old. Going h bs old s bs) (sym c.new-answers.ensures.items) (going_start h bs s c.clear.ensures)),
+    )
 
 pub loop-line-preserved : goal.loop-line-preserved
 loop-line-preserved g c =
     let h = rulebook g.R.Book.fixed g.C.Book.fixed in
     let s = standing_of c.loop-line.ledger in
-    let t = standing_of c.answer_line.new.ledger in
-    going_more h c.args.script.now (vec_items c.loop-line.answers) (vec_items c.push_reserved.new.self) c.answer_line.result s t
-    c.loop-line.lines.rest.now c.next_line.new.self.rest.now c.in-Some.line.now c.loop-line.invariant c.in-Some.ensures.lines
-    c.answer_line.ensures.answer c.answer_line.ensures.after
-    (c.push_reserved.ensures.items ∙ ap (λ old. old ++ (c.answer_line.result ∷ [])) c.reserve.ensures.items)
+    let t = standing_of c.answer_line.new.ledger in (
+      tt,
+      tt,
+      going_more h c.args.script.now (vec_items c.loop-line.answers) (vec_items c.push_reserved.new.self) c.answer_line.result s t
+          c.loop-line.line-iterator.rest.now c.next.new.self.rest.now c.in-Some.line.now c.loop-line.invariant.2 c.in-Some.ensures.steps
+          c.answer_line.ensures.answer c.answer_line.ensures.after
+          (c.push_reserved.ensures.items ∙ ap (λ old. old ++ (c.answer_line.result ∷ [])) c.reserve.ensures.items),
+    )
 
 pub returns : goal.returns
 returns g c =
     let h = rulebook g.R.Book.fixed g.C.Book.fixed in
     let s = standing_of c.loop-line.ledger in
-    going_end h c.args.script.now (vec_items c.loop-line.answers) s c.loop-line.lines.rest.now c.loop-line.invariant c.in_default.ensures.lines (omega arith)
+    going_end h c.args.script.now (vec_items c.loop-line.answers) s c.loop-line.line-iterator.rest.now c.loop-line.invariant.2 c.in-None.ensures.steps.0 (omega arith)
 
-pub returns-then-is_err : goal.returns-then-is_err
-returns-then-is_err g c =
+pub returns-in_err-reserve : goal.returns-in_err-reserve
+returns-in_err-reserve g c =
     let h = rulebook g.R.Book.fixed g.C.Book.fixed in
-    let before = standing_of c.args.ledger.now in
     let s = standing_of c.loop-line.ledger in
-    going-stop h c.args.script.now (vec_items c.loop-line.answers) before s c.loop-line.lines.rest.now c.in-Some.line.now (lines_of c.next_line.new.self.rest.now)
-    c.loop-line.invariant c.in-Some.ensures.lines (omega arith)
+    let stop = going-stop h c.args.script.now (vec_items c.loop-line.answers) (standing_of c.args.ledger.now) s c.loop-line.line-iterator.rest.now
+        c.in-Some.line.now (lines_of c.next.new.self.rest.now) c.loop-line.invariant.2 c.in-Some.ensures.steps (omega arith) in
+    search rules
