@@ -1,7 +1,8 @@
 -- The code's carrying out is the rules' effect. Assumes nothing.
-use Rattle.std.proofs.Common.{◌≡◌, ℕ, ◌<◌, Bool, true, false, cond, eqb, leb, List, length, get_or, set, Some, None, Ok, Err, Result, sym, refl, ap, ◌∙◌, subst, ⊎_elim, arith}
-use Rattle.std.proofs.lemmas.List.{get_or-set_same, get_or-set_other}
-use Rattle.std.proofs.lemmas.Bool.{eqb-true, eq-eqb, ne_eqb, cases_eq, cases_Bool, cond-true, cond-false, lt-leb}
+use Rattle.std.proofs.Common.{◌≡◌, ℕ, ◌<◌, true, false, cond, List, length, Some, None, Ok, Err, Result, sym, refl, ap, ◌∙◌, subst, arith}
+use Rattle.std.proofs.lemmas.Grind.{common_steps, get_or-set_at}
+use Rattle.std.proofs.lemmas.Bool.Decides.{nat_tests}
+use Rattle.std.proofs.lemmas.Bool.{cond-false}
 use Rattle.answers.specs.declared.Refusal.{Refusal}
 use Rattle.answers.specs.declared.Fault.{Fault}
 use Rattle.instruction.specs.declared.Kind.TheVariants.{Issue, PayIn, Enter, Earmark, Fund, Settle, Free}
@@ -19,7 +20,7 @@ use Rattle.rulebook.specs.Rules.{Rulebook, Standing, all_checks, answer_as, answ
 use Rattle.rulebook.specs.Law.{Given}
 use Rattle.ledger.specs.declared.parts.Parts.{Parts}
 use Rattle.ledger.specs.View.{rulebook, standing_in, book_after}
-use Rattle.ledger.specs.Rows.{blank, trade_at, state_at, terms_at, put, rows_after}
+use Rattle.ledger.specs.Rows.{trade_at, state_at, terms_at, put, rows_after}
 use Rattle.rulebook.proofs.Checks.{right}
 use Rattle.ledger.proofs.Views.{standing-same}
 use Rattle.rulebook.proofs.Carries.{carried-out}
@@ -32,31 +33,15 @@ next-after k o e = rw e
 
 -- one row put into the table
 module _ (rows : List Trade) (t : ℕ) (trade : Trade) (whole : length rows ≡ 128) (low : t < 128) where
-  put-row : (u : ℕ) → get_or (put rows t trade) u blank ≡ cond (eqb t u) trade (get_or rows u blank)
-  put-row u =
-      let p : put rows t trade ≡ set rows t trade = cond-false (leb 128 t) rows (set rows t trade) (lt-leb 128 t low) in
-      let l : t < length rows = omega arith in
-      ap (λ z. get_or z u blank) p ∙
-      ⊎_elim (λ (e : t ≡ u). subst (λ v. get_or (set rows t trade) v blank ≡ cond (eqb t v) trade (get_or rows v blank)) e
-      (get_or-set_same rows t trade blank l ∙ sym (cond-true (eqb t t) trade (get_or rows t blank) (eq-eqb t t refl))))
-      (λ ne. get_or-set_other rows t u trade blank (λ e. ne (sym e)) ∙ sym (cond-false (eqb t u) trade (get_or rows u blank) (ne_eqb t u ne)))
-      (cases_eq t u)
-
-  split : {X : Type 0} (f : Trade → X) (b : Bool) (v w : Trade) → f (cond b v w) ≡ cond b (f v) (f w)
-  split f true v w = refl
-  split f false v w = refl
-
   pub put-state : (u : ℕ) → state_at (put rows t trade) u ≡ at (state_at rows) t trade.state u
-  put-state u = ap (λ z. z.state) (put-row u) ∙ split (λ z. z.state) (eqb t u) trade (get_or rows u blank)
+  put-state u = grind (arith, common_steps, nat_tests, get_or-set_at {X = Trade})
 
   pub put-terms : (u : ℕ) → terms_at (put rows t trade) u ≡ at (terms_at rows) t trade.terms u
-  put-terms u = ap (λ z. z.terms) (put-row u) ∙ split (λ z. z.terms) (eqb t u) trade (get_or rows u blank)
+  put-terms u = grind (arith, common_steps, nat_tests, get_or-set_at {X = Trade})
 
 -- terms that are put where they were already
 same-terms : (f : ℕ → Terms) (t u : ℕ) → at f t (f t) u ≡ f u
-same-terms f t u =
-    ⊎_elim (λ (e : eqb t u ≡ true). cond-true (eqb t u) (f t) (f u) e ∙ ap f (eqb-true t u e))
-    (λ (e : eqb t u ≡ false). cond-false (eqb t u) (f t) (f u) e) (cases_Bool (eqb t u))
+same-terms f t u = grind (arith, nat_tests)
 
 -- the table after an accepted instruction
 pub record Turned (k : Act) (x : Instruction) (rows after-rows : List Trade) : Type 0 where

@@ -1,7 +1,9 @@
 -- What a contract sees of a ledger, and where the ledger stands. Assumes nothing.
-use Rattle.std.specs.Prelude.{ℕ, List, [], map, Result, slice_index_or}
+use Rattle.std.specs.Prelude.{◌≡◌, ℕ, List, [], map, Some, Ok, Err, Result, slice_index_or}
 use Rattle.std.specs.List.{range_with_len}
 use Rattle.answers.specs.declared.Refusal.{Refusal}
+use Rattle.answers.specs.declared.Fault.{Fault}
+use Rattle.instruction.specs.declared.Kind.{Kind}
 use Rattle.instruction.specs.declared.Instruction.{Instruction}
 use Rattle.book.specs.declared.Book as book
 use Rattle.book.specs.declared.Holding.{Holding}
@@ -63,6 +65,11 @@ standing_in r c p = standing (r.holdings p.register) (c.holdings p.cash) p.trade
 -- what an instruction about a trade makes of one side's book
 abbrev pub book_after : BookKind → Side → Act → Instruction → Trade → Holdings → Holdings
 book_after k d act x trade b = outcome k b (deed act d trade.state trade.terms x)
+
+-- the kind of an accepted instruction, or the fault of a refused one
+abbrev pub IsJudged : Act → Result (Unit {0}) Fault → Result Kind Fault → Type 0
+IsJudged k verdict (Ok kind) = (k ≡ Some kind) × (verdict ≡ Ok tt)
+IsJudged k verdict (Err fault) = verdict ≡ Err fault
 
 -- the question of what an account has of an item, or of a currency
 abbrev pub holding_question : Rulebook → Standing → Side → ℕ → ℕ → Result Holding Refusal

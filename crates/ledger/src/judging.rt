@@ -1,9 +1,9 @@
 // The rules' answer to an instruction, with nothing changed.
-ghost use Rattle.std.specs.Prelude.{◌≡◌, if◌then◌else◌, Some, Ok, Err, nat_lt, MatchResult};
+ghost use Rattle.std.specs.Prelude.{◌≡◌, if◌then◌else◌, Some, Ok, Err, nat_lt};
 ghost use Rattle.instruction.specs.Kinds.{kind_at};
 ghost use Rattle.book.specs.Rulings.{first};
 ghost use Rattle.rulebook.specs.Rules.{stray, enter_checks, answer_as, verdict};
-ghost use Rattle.ledger.specs.View.{rulebook, standing_in};
+ghost use Rattle.ledger.specs.View.{rulebook, standing_in, IsJudged};
 
 use crate::parts::Parts;
 use answers::{Fault, Refusal};
@@ -40,7 +40,8 @@ fn has_stray_field(kind: Kind, x: &Instruction) -> bool
 
 // The account has so much of the item free.
 fn enough<B: Book>(book: &B, account: u16, item: u16, wanted: u64) -> Result<(), Refusal>
-    ensures { result ≡ (if nat_lt ((B.holdings book.now).free account item) wanted then Err Refusal.OverFree else Ok tt) }
+    ensures { result
+        ≡ (if nat_lt ((B.holdings book.now).free account item) wanted then Err Refusal.OverFree else Ok tt) }
 {
     if book.available(account, item) < wanted {
         return Err(Refusal::OverFree);
@@ -70,7 +71,8 @@ impl<R: Book, C: Book> Parts<R, C> {
 
     // The answer to an instruction of a known kind.
     fn ruling(&self, kind: Kind, x: &Instruction) -> Result<(), Refusal>
-        ensures { result ≡ answer_as (rulebook R.fixed C.fixed) (Some kind) (standing_in R.Book C.Book self.now) x.now }
+        ensures { result
+            ≡ answer_as (rulebook R.fixed C.fixed) (Some kind) (standing_in R.Book C.Book self.now) x.now }
     {
         if has_stray_field(kind, x) {
             return Err(Refusal::StrayField);
@@ -106,9 +108,8 @@ impl<R: Book, C: Book> Parts<R, C> {
 
     // The kind of an instruction that the rules accept now, or their fault.
     pub(crate) fn accepted(&self, x: &Instruction) -> Result<Kind, Fault>
-        ensures { MatchResult result
-            (λ kind. (kind_at x.now.kind ≡ Some kind) × (verdict (rulebook R.fixed C.fixed) (standing_in R.Book C.Book self.now) x.now ≡ Ok tt))
-            (λ fault. verdict (rulebook R.fixed C.fixed) (standing_in R.Book C.Book self.now) x.now ≡ Err fault) }
+        ensures { IsJudged (kind_at x.now.kind)
+            (verdict (rulebook R.fixed C.fixed) (standing_in R.Book C.Book self.now) x.now) result }
     {
         let kind = Kind::from_code(x.kind).ok_or(Fault::plain(Refusal::UnknownKind))?;
         self.ruling(kind, x)

@@ -105,14 +105,16 @@ impl<R: Book, C: Book> Ledger<R, C> {
 
     // What an account has of an item of the register.
     pub fn securities(&self, account: u16, item: u16) -> Result<Holding, Refusal>
-        ensures { result ≡ holding_question (rulebook R.fixed C.fixed) (standing_of self.now) in_securities account item }
+        ensures { result
+            ≡ holding_question (rulebook R.fixed C.fixed) (standing_of self.now) in_securities account item }
     {
         self.parts.register.holding(account, item)
     }
 
     // What an account has of a currency.
     pub fn money(&self, account: u16, currency: u16) -> Result<Holding, Refusal>
-        ensures { result ≡ holding_question (rulebook R.fixed C.fixed) (standing_of self.now) in_cash account currency }
+        ensures { result
+            ≡ holding_question (rulebook R.fixed C.fixed) (standing_of self.now) in_cash account currency }
     {
         self.parts.cash.holding(account, currency)
     }
