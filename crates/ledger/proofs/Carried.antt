@@ -1,25 +1,26 @@
 -- The code's carrying out is the rules' effect. Assumes nothing.
-use Rattle.std.proofs.Common.{◌≡◌, ℕ, ◌<◌, Bool, true, false, cond, eqb, leb, List, length, get_or, set, Some, None, Ok, Err, Result, sym, refl, ap, ◌∙◌, subst, ⊎_elim, arith}
-use Rattle.std.proofs.lemmas.List.{get_or-set_same, get_or-set_other}
-use Rattle.std.proofs.lemmas.Bool.{eqb-true, eq-eqb, ne_eqb, cases_eq, cases_Bool, cond-true, cond-false, lt-leb}
+use Rattle.std.proofs.Common.{◌≡◌, ℕ, ◌<◌, true, false, cond, List, length, Some, None, Ok, Err, Result, sym, refl, ap, ◌∙◌, subst, arith}
+use Rattle.std.proofs.lemmas.Grind.{common_steps, get_or-set_at}
+use Rattle.std.proofs.lemmas.Bool.Decides.{nat_tests}
+use Rattle.std.proofs.lemmas.Bool.{cond-false}
 use Rattle.answers.specs.declared.Refusal.{Refusal}
 use Rattle.answers.specs.declared.Fault.{Fault}
 use Rattle.instruction.specs.declared.Kind.TheVariants.{Issue, PayIn, Enter, Earmark, Fund, Settle, Free}
 use Rattle.instruction.specs.declared.Instruction.{Instruction}
 use Rattle.instruction.specs.Kinds.{kind_at}
-use Rattle.book.specs.Holdings.{Holdings}
-use Rattle.book.specs.Rulings.{first, outcome, on_ok}
+use Rattle.book.specs.declared.Book as book
+use Rattle.book.specs.Rulings.{first, on_ok}
 use Rattle.rulebook.specs.declared.State.{State}
 use Rattle.rulebook.specs.declared.State.TheVariants.{Entered, Earmarked, Funded, Settled, Freed}
 use Rattle.rulebook.specs.declared.Terms.{Terms}
 use Rattle.rulebook.specs.declared.Trade.{Trade}
 use Rattle.rulebook.specs.Table.{Act, after, starts, next}
-use Rattle.rulebook.specs.Terms.{terms_of, securities, cash}
-use Rattle.rulebook.specs.Rules.{Rulebook, Standing, all_checks, answer, with_trade, verdict, at, turned, is_enter, terms_after, deed, effect, Reached}
+use Rattle.rulebook.specs.Terms.{terms_of, Side, securities, cash}
+use Rattle.rulebook.specs.Rules.{Rulebook, Standing, all_checks, answer_as, answer, with_trade, verdict, at, turned, is_enter, terms_after, deed, effect, Reached}
 use Rattle.rulebook.specs.Law.{Given}
 use Rattle.ledger.specs.declared.parts.Parts.{Parts}
-use Rattle.ledger.specs.View.{standing, standing_in}
-use Rattle.ledger.specs.Rows.{blank, state_at, terms_at, put, rows_after}
+use Rattle.ledger.specs.View.{rulebook, standing_in, book_after}
+use Rattle.ledger.specs.Rows.{trade_at, state_at, terms_at, put, rows_after}
 use Rattle.rulebook.proofs.Checks.{right}
 use Rattle.ledger.proofs.Views.{standing-same}
 use Rattle.rulebook.proofs.Carries.{carried-out}
@@ -32,31 +33,15 @@ next-after k o e = rw e
 
 -- one row put into the table
 module _ (rows : List Trade) (t : ℕ) (trade : Trade) (whole : length rows ≡ 128) (low : t < 128) where
-  put-row : (u : ℕ) → get_or (put rows t trade) u blank ≡ cond (eqb t u) trade (get_or rows u blank)
-  put-row u =
-      let p : put rows t trade ≡ set rows t trade = cond-false (leb 128 t) rows (set rows t trade) (lt-leb 128 t low) in
-      let l : t < length rows = omega arith in
-      ap (λ z. get_or z u blank) p ∙
-      ⊎_elim (λ (e : t ≡ u). subst (λ v. get_or (set rows t trade) v blank ≡ cond (eqb t v) trade (get_or rows v blank)) e
-      (get_or-set_same rows t trade blank l ∙ sym (cond-true (eqb t t) trade (get_or rows t blank) (eq-eqb t t refl))))
-      (λ ne. get_or-set_other rows t u trade blank (λ e. ne (sym e)) ∙ sym (cond-false (eqb t u) trade (get_or rows u blank) (ne_eqb t u ne)))
-      (cases_eq t u)
-
-  split : {X : Type 0} (f : Trade → X) (b : Bool) (v w : Trade) → f (cond b v w) ≡ cond b (f v) (f w)
-  split f true v w = refl
-  split f false v w = refl
-
   pub put-state : (u : ℕ) → state_at (put rows t trade) u ≡ at (state_at rows) t trade.state u
-  put-state u = ap (λ z. z.state) (put-row u) ∙ split (λ z. z.state) (eqb t u) trade (get_or rows u blank)
+  put-state u = grind (arith, common_steps, nat_tests, get_or-set_at {X = Trade})
 
   pub put-terms : (u : ℕ) → terms_at (put rows t trade) u ≡ at (terms_at rows) t trade.terms u
-  put-terms u = ap (λ z. z.terms) (put-row u) ∙ split (λ z. z.terms) (eqb t u) trade (get_or rows u blank)
+  put-terms u = grind (arith, common_steps, nat_tests, get_or-set_at {X = Trade})
 
 -- terms that are put where they were already
 same-terms : (f : ℕ → Terms) (t u : ℕ) → at f t (f t) u ≡ f u
-same-terms f t u =
-    ⊎_elim (λ (e : eqb t u ≡ true). cond-true (eqb t u) (f t) (f u) e ∙ ap f (eqb-true t u e))
-    (λ (e : eqb t u ≡ false). cond-false (eqb t u) (f t) (f u) e) (cases_Bool (eqb t u))
+same-terms f t u = grind (arith, nat_tests)
 
 -- the table after an accepted instruction
 pub record Turned (k : Act) (x : Instruction) (rows after-rows : List Trade) : Type 0 where
@@ -98,25 +83,6 @@ module _ (rows : List Trade) (x : Instruction) (whole : length rows ≡ 128) whe
   turned_rows h (Some Settle) m s p = let r = right h (Some Settle) o m s x tt p in keeps-terms (Some Settle) Settled refl refl r.from r.low
   turned_rows h (Some Free) m s p = let r = right h (Some Free) o m s x tt p in keeps-terms (Some Free) Freed refl refl r.from r.low
 
--- What carrying out leaves is what the rules say, wherever accepted instructions led to the standing before.
-pub carried : (h : Rulebook) (r c r' c' : Holdings) (rows rows' : List Trade) (x : Instruction) (k : Act) → kind_at x.kind ≡ k → length rows ≡ 128
-    → Reached h (standing r c rows) → answer h (standing r c rows) x ≡ Ok tt
-    → r' ≡ outcome (h.kind securities) r (deed k securities (state_at rows x.trade) (terms_at rows x.trade) x)
-    → c' ≡ outcome (h.kind cash) c (deed k cash (state_at rows x.trade) (terms_at rows x.trade) x)
-    → rows' ≡ rows_after k x rows → standing r' c' rows' ≡ effect (standing r c rows) x
-carried h r c r' c' rows rows' x k kk whole (xs, run) ok er ec e =
-    let s = standing r c rows in
-    let takes = carried-out h xs s x run ok in
-    let a = subst (λ k. first (all_checks h k (state_at rows x.trade) (terms_at rows x.trade) s x) ≡ Ok tt) kk ok in
-    let tr = turned_rows rows x whole h k (terms_at rows x.trade) s a in
-    let dr = sym (outcome-ok (h.kind securities) r (deed (kind_at x.kind) securities (state_at rows x.trade) (terms_at rows x.trade) x) (sym (takes securities))) in
-    let dc = sym (outcome-ok (h.kind cash) c (deed (kind_at x.kind) cash (state_at rows x.trade) (terms_at rows x.trade) x) (sym (takes cash))) in
-    standing-same r' c' rows' (effect s x)
-    (er ∙ ap (λ k. outcome (h.kind securities) r (deed k securities (state_at rows x.trade) (terms_at rows x.trade) x)) (sym kk) ∙ dr)
-    (ec ∙ ap (λ k. outcome (h.kind cash) c (deed k cash (state_at rows x.trade) (terms_at rows x.trade) x)) (sym kk) ∙ dc)
-    (λ u. ap (λ z. state_at z u) e ∙ tr.states u ∙ ap (λ k. turned (after k) (state_at rows) x.trade u) (sym kk))
-    (λ u. ap (λ z. terms_at z u) e ∙ tr.terms u ∙ ap (λ k. terms_after (is_enter k) (terms_at rows) x u) (sym kk))
-
 -- an answer with its trade is a yes where the answer is, and a refused instruction leaves all as it was
 pub accepts : (x : Instruction) (r : Result (Unit {0}) Refusal) → with_trade x r ≡ Ok tt → r ≡ Ok tt
 accepts x (Ok u) e = refl
@@ -130,13 +96,24 @@ unmoved s t x f (Err r) e = refl
 pub given-refused : (h : Rulebook) (s : Standing) (x : Instruction) (f : Fault) → verdict h s x ≡ Err f → Reached h s → Given h s s x
 given-refused h s x f e z = given h s s x z (sym (unmoved s (effect s x) x f (answer h s x) e))
 
--- and where they accept it
-pub given-carried : {R C : Type 0} (h : Rulebook) (r : R → Holdings) (c : C → Holdings) (p q : Parts R C) (x : Instruction) (k : Act)
-    → kind_at x.kind ≡ k → verdict h (standing_in r c p) x ≡ Ok tt → Reached h (standing_in r c p)
-    → r q.register ≡ outcome (h.kind securities) (r p.register) (deed k securities (state_at p.trades.rows x.trade) (terms_at p.trades.rows x.trade) x)
-    → c q.cash ≡ outcome (h.kind cash) (c p.cash) (deed k cash (state_at p.trades.rows x.trade) (terms_at p.trades.rows x.trade) x)
-    → q.trades.rows ≡ rows_after k x p.trades.rows → Given h (standing_in r c p) (standing_in r c q) x
-given-carried h r c p q x k kk v z er ec et =
+-- and where they accept it: what carrying out leaves is what the rules say
+pub given-carried : {R C : Type 0} (r : book.Ghosts R) (c : book.Ghosts C) (p q : Parts R C) (x : Instruction) (k : Act)
+    → kind_at x.kind ≡ k → verdict (rulebook r.fixed c.fixed) (standing_in r c p) x ≡ Ok tt → Reached (rulebook r.fixed c.fixed) (standing_in r c p)
+    → r.holdings q.register ≡ book_after r.fixed securities k x (trade_at p.trades.rows x.trade) (r.holdings p.register)
+    → c.holdings q.cash ≡ book_after c.fixed cash k x (trade_at p.trades.rows x.trade) (c.holdings p.cash)
+    → q.trades.rows ≡ rows_after k x p.trades.rows → Given (rulebook r.fixed c.fixed) (standing_in r c p) (standing_in r c q) x
+given-carried r c p q x k is v (xs, run) er ec et =
+    let h = rulebook r.fixed c.fixed in
     let s = standing_in r c p in
+    let rows = p.trades.rows in
+    let trade = trade_at rows x.trade in
     let ok = accepts x (answer h s x) v in
-    given h s (standing_in r c q) x z (carried h (r p.register) (c p.cash) (r q.register) (c q.cash) p.trades.rows q.trades.rows x k kk p.trades.whole z ok er ec et ∙ sym (accepted h s x ok))
+    let takes = carried-out h xs s x run ok in
+    let tr = turned_rows rows x p.trades.whole h k trade.terms s (subst (λ k. answer_as h k s x ≡ Ok tt) is ok) in
+    let done : (d : Side) → book_after (h.kind d) d k x trade (s.book d) ≡ (effect s x).book d = λ d.
+    ap (λ k. book_after (h.kind d) d k x trade (s.book d)) (sym is) ∙ sym (outcome-ok (h.kind d) (s.book d) (deed (kind_at x.kind) d trade.state trade.terms x) (sym (takes d))) in
+    let leads : standing_in r c q ≡ effect s x =
+    standing-same (r.holdings q.register) (c.holdings q.cash) q.trades.rows (effect s x) (er ∙ done securities) (ec ∙ done cash)
+    (λ u. ap (λ z. state_at z u) et ∙ tr.states u ∙ ap (λ k. turned (after k) (state_at rows) x.trade u) (sym is))
+    (λ u. ap (λ z. terms_at z u) et ∙ tr.terms u ∙ ap (λ k. terms_after (is_enter k) (terms_at rows) x u) (sym is)) in
+    given h s (standing_in r c q) x (xs, run) (leads ∙ sym (accepted h s x ok))

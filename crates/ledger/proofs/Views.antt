@@ -1,16 +1,17 @@
 -- The code's ledger as a standing. Assumes nothing.
-use Rattle.std.proofs.Common.{◌≡◌, ℕ, ◌<◌, ◌≤◌, ◌⊎◌, inl, inr, List, [], length, map, get_or, replicate, sym, ap, ◌∙◌, ⊎_elim, subst, arith}
+use Rattle.std.proofs.Common.{◌≡◌, ℕ, ◌<◌, ◌≤◌, ◌⊎◌, inl, inr, List, [], map, get_or, replicate, sym, ap, ◌∙◌, ⊎_elim, subst, arith}
 use Rattle.std.specs.List.{range_with_len}
 use Rattle.std.proofs.lemmas.List.{get_or_past, get_or-replicate}
 use Rattle.std.proofs.lemmas.List.FromFn.{get_or-map-range_with_len, length-map-range_with_len}
 use Rattle.std.proofs.lemmas.Bool.{cases_lt}
+use Rattle.book.specs.declared.Book as book
 use Rattle.book.specs.declared.Holding.{Holding}
 use Rattle.book.specs.Holdings.{Holdings, BookKind, nothing}
 use Rattle.book.specs.Rulings.{holding_at}
 use Rattle.rulebook.specs.declared.Trade.{Trade}
 use Rattle.rulebook.specs.Terms.{Side, securities, cash}
 use Rattle.rulebook.specs.Rules.{Rulebook, Standing, empty, start, Reached}
-use Rattle.ledger.specs.View.{by_side, standing, Table, no_holding, holding_in, holdings_in, table_of, Tables, tables_of, standing_of, standing_in}
+use Rattle.ledger.specs.View.{by_side, standing, no_holding, holding_in, holdings_in, table_of, Tables, tables_in, standing_of, standing_in}
 use Rattle.ledger.specs.declared.parts.Parts.{Parts}
 use Rattle.ledger.specs.Rows.{blank, state_at, terms_at}
 
@@ -63,11 +64,10 @@ module _ (k : BookKind) (b : Holdings) (o : Outside k b) where
   tabled = λ j. record { free = λ a i. (in-table a i j).free; blocked = λ a i. (in-table a i j).blocked }
 
 -- where a ledger stands is where its parts do
-pub stands : {R C : Type 0} (h : Rulebook) (r : R → Holdings) (c : C → Holdings) (p : Parts R C) (t : Tables)
-    → ((b : R) → Outside (h.kind securities) (r b)) → ((b : C) → Outside (h.kind cash) (c b))
-    → tables_of h (r p.register) (c p.cash) p.trades.rows ≡ t → standing_of t ≡ standing_in r c p
-stands h r c p t or oc e =
+pub stands : {R C : Type 0} (r : book.Ghosts R) (c : book.Ghosts C) (p : Parts R C) {t : Tables}
+    → ((b : R) → Outside r.fixed (r.holdings b)) → ((b : C) → Outside c.fixed (c.holdings b)) → tables_in r c p ≡ t → standing_of t ≡ standing_in r c p
+stands r c p or oc e =
     let rows = p.trades.rows in
     ap standing_of (sym e)
-    ∙ ap (λ b. standing b (holdings_in (table_of (h.kind cash) (c p.cash))) rows) (tabled (h.kind securities) (r p.register) (or p.register))
-    ∙ ap (λ b. standing (r p.register) b rows) (tabled (h.kind cash) (c p.cash) (oc p.cash))
+    ∙ ap (λ b. standing b (holdings_in (table_of c.fixed (c.holdings p.cash))) rows) (tabled r.fixed (r.holdings p.register) (or p.register))
+    ∙ ap (λ b. standing (r.holdings p.register) b rows) (tabled c.fixed (c.holdings p.cash) (oc p.cash))

@@ -1,5 +1,5 @@
 -- The rows of the table of trades. Assumes nothing.
-use Rattle.std.specs.Prelude.{ℕ, cond, not, List, get_or, Some, None, Ok, Err, Option, Result, nat_le, slice_index_or, slice_set}
+use Rattle.std.specs.Prelude.{ℕ, cond, not, List, Some, None, Ok, Err, Option, Result, nat_le, slice_index_or, slice_set}
 use Rattle.answers.specs.declared.Refusal.{Refusal}
 use Rattle.answers.specs.declared.Refusal.TheVariants.{NoTrade}
 use Rattle.instruction.specs.declared.Instruction.{Instruction}
@@ -15,11 +15,15 @@ use Rattle.rulebook.specs.Rules.{turned_trade}
 abbrev pub blank : Trade
 blank = record { state = Unentered; terms = no_terms }
 
+-- the trade of this number; past the table, one that was never entered
+abbrev pub trade_at : List Trade → ℕ → Trade
+trade_at rows t = slice_index_or rows t blank
+
 abbrev pub state_at : List Trade → ℕ → State
-state_at rows t = (get_or rows t blank).state
+state_at rows t = (trade_at rows t).state
 
 abbrev pub terms_at : List Trade → ℕ → Terms
-terms_at rows t = (get_or rows t blank).terms
+terms_at rows t = (trade_at rows t).terms
 
 -- one row of the table changed
 abbrev pub put : List Trade → ℕ → Trade → List Trade
@@ -30,7 +34,7 @@ put_answer t = cond (nat_le 128 t) (Err NoTrade) (Ok tt)
 
 -- the trade that an instruction may start from, or why it may not
 abbrev pub startable : Act → Refusal → List Trade → ℕ → Result Trade Refusal
-startable k r rows t = cond (nat_le 128 t) (Err NoTrade) (cond (not (starts k (state_at rows t))) (Err r) (Ok (slice_index_or rows t blank)))
+startable k r rows t = cond (nat_le 128 t) (Err NoTrade) (cond (not (starts k (state_at rows t))) (Err r) (Ok (trade_at rows t)))
 
 -- one trade put where there is one
 abbrev pub rows_with : List Trade → ℕ → Option Trade → List Trade
@@ -39,7 +43,7 @@ rows_with rows t None = rows
 
 -- and the table
 abbrev pub rows_after : Act → Instruction → List Trade → List Trade
-rows_after k x rows = rows_with rows x.trade (turned_trade k x (slice_index_or rows x.trade blank))
+rows_after k x rows = rows_with rows x.trade (turned_trade k x (trade_at rows x.trade))
 
 -- the question of a trade's state
 abbrev pub state_question : (ℕ → State) → ℕ → Result State Refusal

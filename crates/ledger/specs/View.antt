@@ -1,14 +1,19 @@
 -- What a contract sees of a ledger, and where the ledger stands. Assumes nothing.
-use Rattle.std.specs.Prelude.{ℕ, List, [], map, Result, slice_index_or}
+use Rattle.std.specs.Prelude.{◌≡◌, ℕ, List, [], map, Some, Ok, Err, Result, slice_index_or}
 use Rattle.std.specs.List.{range_with_len}
 use Rattle.answers.specs.declared.Refusal.{Refusal}
+use Rattle.answers.specs.declared.Fault.{Fault}
+use Rattle.instruction.specs.declared.Kind.{Kind}
+use Rattle.instruction.specs.declared.Instruction.{Instruction}
+use Rattle.book.specs.declared.Book as book
 use Rattle.book.specs.declared.Holding.{Holding}
 use Rattle.book.specs.Holdings.{Holdings, BookKind}
-use Rattle.book.specs.Rulings.{asked, holding_at}
+use Rattle.book.specs.Rulings.{asked, holding_at, outcome}
 use Rattle.rulebook.specs.declared.Trade.{Trade}
 use Rattle.ledger.specs.declared.parts.Parts.{Parts}
 use Rattle.rulebook.specs.Terms.{Side, securities, cash}
-use Rattle.rulebook.specs.Rules.{Rulebook, Standing}
+use Rattle.rulebook.specs.Table.{Act}
+use Rattle.rulebook.specs.Rules.{Rulebook, Standing, deed}
 use Rattle.ledger.specs.Rows.{state_at, terms_at}
 
 abbrev pub by_side : {X : Type 0} → X → X → Side → X
@@ -46,16 +51,25 @@ pub record Tables : Type 0 where
   pub cash : Table
   pub trades : List Trade
 
-abbrev pub tables_of : Rulebook → Holdings → Holdings → List Trade → Tables
-tables_of h r c rows = record { register = table_of (h.kind securities) r; cash = table_of (h.kind cash) c; trades = rows }
+abbrev pub tables_in : {R C : Type 0} → book.Ghosts R → book.Ghosts C → Parts R C → Tables
+tables_in r c p = record { register = table_of r.fixed (r.holdings p.register); cash = table_of c.fixed (c.holdings p.cash); trades = p.trades.rows }
 
 -- where a ledger stands
 abbrev pub standing_of : Tables → Standing
 standing_of t = standing (holdings_in t.register) (holdings_in t.cash) t.trades
 
 -- and its parts, by the meaning of each book
-abbrev pub standing_in : {R C : Type 0} → (R → Holdings) → (C → Holdings) → Parts R C → Standing
-standing_in r c p = standing (r p.register) (c p.cash) p.trades.rows
+abbrev pub standing_in : {R C : Type 0} → book.Ghosts R → book.Ghosts C → Parts R C → Standing
+standing_in r c p = standing (r.holdings p.register) (c.holdings p.cash) p.trades.rows
+
+-- what an instruction about a trade makes of one side's book
+abbrev pub book_after : BookKind → Side → Act → Instruction → Trade → Holdings → Holdings
+book_after k d act x trade b = outcome k b (deed act d trade.state trade.terms x)
+
+-- the kind of an accepted instruction, or the fault of a refused one
+abbrev pub IsJudged : Act → Result (Unit {0}) Fault → Result Kind Fault → Type 0
+IsJudged k verdict (Ok kind) = (k ≡ Some kind) × (verdict ≡ Ok tt)
+IsJudged k verdict (Err fault) = verdict ≡ Err fault
 
 -- the question of what an account has of an item, or of a currency
 abbrev pub holding_question : Rulebook → Standing → Side → ℕ → ℕ → Result Holding Refusal

@@ -31,13 +31,13 @@ pub struct Ledger<R: Book, C: Book> {
 // A contract sees the books and the trades as tables. Accepted instructions led to where a ledger stands.
 impl<R: Book, C: Book> Model for Ledger<R, C> {
     ghost use Rattle.rulebook.specs.Rules.{Reached};
-    ghost use Rattle.ledger.specs.View.{Tables, tables_of, rulebook, standing_in};
+    ghost use Rattle.ledger.specs.View.{Tables, tables_in, rulebook, standing_in};
 
     ghost Value = { Tables };
 
-    ghost view = { λ l. tables_of (rulebook R.fixed C.fixed) (R.holdings l.parts.register) (C.holdings l.parts.cash) l.parts.trades.rows };
+    ghost view = { λ l. tables_in R.Book C.Book l.parts };
 
-    ghost invariant = { λ l. Reached (rulebook R.fixed C.fixed) (standing_in R.holdings C.holdings l.parts) };
+    ghost invariant = { λ l. Reached (rulebook R.fixed C.fixed) (standing_in R.Book C.Book l.parts) };
 }
 
 impl<R: Book, C: Book> Ledger<R, C> {
@@ -78,8 +78,7 @@ impl<R: Book, C: Book> Ledger<R, C> {
     pub fn judge(&self, x: &Instruction) -> Result<(), Fault>
         ensures { result ≡ verdict (rulebook R.fixed C.fixed) (standing_of self.now) x.now }
     {
-        self.parts.accepted(x)?;
-        Ok(())
+        self.parts.accepted(x).map(|_| ())
     }
 
     // Judges an instruction, and carries it out where the rules accept it.
@@ -98,7 +97,7 @@ impl<R: Book, C: Book> Ledger<R, C> {
     pub fn trade_state(&self, number: u32) -> Result<State, Refusal>
         ensures { result ≡ state_question (standing_of self.now).state number }
     {
-        if number >= TRADES {
+        if number as usize >= TRADES {
             return Err(Refusal::NoTrade);
         }
         Ok(self.parts.trades.at(number).state)
@@ -106,14 +105,16 @@ impl<R: Book, C: Book> Ledger<R, C> {
 
     // What an account has of an item of the register.
     pub fn securities(&self, account: u16, item: u16) -> Result<Holding, Refusal>
-        ensures { result ≡ holding_question (rulebook R.fixed C.fixed) (standing_of self.now) in_securities account item }
+        ensures { result
+            ≡ holding_question (rulebook R.fixed C.fixed) (standing_of self.now) in_securities account item }
     {
         self.parts.register.holding(account, item)
     }
 
     // What an account has of a currency.
     pub fn money(&self, account: u16, currency: u16) -> Result<Holding, Refusal>
-        ensures { result ≡ holding_question (rulebook R.fixed C.fixed) (standing_of self.now) in_cash account currency }
+        ensures { result
+            ≡ holding_question (rulebook R.fixed C.fixed) (standing_of self.now) in_cash account currency }
     {
         self.parts.cash.holding(account, currency)
     }

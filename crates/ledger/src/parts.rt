@@ -15,7 +15,7 @@ pub(crate) struct Parts<R: Book, C: Book> {
 
 impl<R: Book, C: Book> Parts<R, C> {
     pub(crate) fn clear(&mut self)
-        ensures { standing_in R.holdings C.holdings self.new ≡ empty }
+        ensures { standing_in R.Book C.Book self.new ≡ empty }
     {
         self.trades = Trades::new();
         self.register.clear();

@@ -1,17 +1,18 @@
 // The table of trades, numbered 0 to 127.
 // Its ghost field imports what this file does, so nothing here may name the table's own type.
-ghost use Rattle.std.specs.Prelude.{◌≡◌, length, replicate, slice_index_or};
-ghost use Rattle.ledger.specs.Rows.{blank, put as put_in, put_answer};
+ghost use Rattle.std.specs.Prelude.{◌≡◌, Some, length, replicate};
+ghost use Rattle.ledger.specs.Rows.{blank, trade_at, put as put_in, put_answer, startable};
 
 use answers::Refusal;
+use instruction::Kind;
 use rulebook::{State, Terms, Trade};
 
 // The trades that the table has room for.
-pub(crate) const TRADES: u32 = 128;
+pub(crate) const TRADES: usize = 128;
 
 #[derive(Drop)]
 pub struct Trades {
-    rows: [Trade; 128],
+    rows: [Trade; TRADES],
     ghost whole: { length rows ≡ 128 },
 }
 
@@ -33,28 +34,39 @@ impl Trades {
         ensures { result.rows ≡ replicate 128 blank }
     {
         Trades {
-            rows: [UNENTERED; 128],
+            rows: [UNENTERED; TRADES],
         }
     }
 
     // The trade with this number; past the last number, one that was never entered.
     pub fn at(&self, number: u32) -> Trade
-        ensures { result ≡ slice_index_or self.now.rows number blank }
+        ensures { result ≡ trade_at self.now.rows number }
     {
-        match self.rows.get(number as usize) {
-            Some(trade) => *trade,
-            None => UNENTERED,
-        }
+        self.rows.get(number as usize).copied().unwrap_or(UNENTERED)
     }
 
     pub fn put(&mut self, number: u32, trade: Trade) -> Result<(), Refusal>
         ensures answer { result ≡ put_answer number }
         ensures after { self.new.rows ≡ put_in self.old.rows number trade }
     {
-        if number >= 128 {
+        if number as usize >= TRADES {
             return Err(Refusal::NoTrade);
         }
         self.rows[number as usize] = trade;
         Ok(())
+    }
+
+    // The trade with this number, if an instruction of this kind may start from its state.
+    pub(crate) fn startable(
+        &self,
+        kind: Kind,
+        refusal: Refusal,
+        number: u32,
+    ) -> Result<Trade, Refusal>
+        ensures { result ≡ startable (Some kind) refusal self.now.rows number }
+    {
+        let trade = *self.rows.get(number as usize).ok_or(Refusal::NoTrade)?;
+        trade.next(kind).ok_or(refusal)?;
+        Ok(trade)
     }
 }

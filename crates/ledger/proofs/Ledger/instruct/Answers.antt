@@ -10,19 +10,18 @@ use Rattle.ledger.proofs.Ledger.instruct.Goals as goal
 
 pub invariant_of-self : goal.invariant_of-self
 invariant_of-self g c =
-    let h = rulebook g.R.Book.fixed g.C.Book.fixed in
     let x = c.args.x.now in
-    (given-carried h g.R.Book.holdings g.C.Book.holdings c.self.inside.parts c.carry_out.new.self x _ c.in_ok-kind.ensures.0 c.in_ok-kind.ensures.1 c.self.invariant c.carry_out.ensures.register c.carry_out.ensures.cash c.carry_out.ensures.trades).reached
+    (given-carried g.R.Book g.C.Book c.self.inside.parts c.carry_out.new.self x _ c.in_ok-kind.ensures.0 c.in_ok-kind.ensures.1 c.self.invariant c.carry_out.ensures.register c.carry_out.ensures.cash c.carry_out.ensures.trades).reached
 
 pub returns : goal.returns
 returns g c =
     let h = rulebook g.R.Book.fixed g.C.Book.fixed in
     let x = c.args.x.now in
-    let old = stands h g.R.Book.holdings g.C.Book.holdings c.self.inside.parts c.args.self.now g.met.R.Book.outside g.met.C.Book.outside c.self.view_is in
-    let new = stands h g.R.Book.holdings g.C.Book.holdings c.carry_out.new.self _ g.met.R.Book.outside g.met.C.Book.outside refl in
+    let old = stands g.R.Book g.C.Book c.self.inside.parts g.met.R.Book.outside g.met.C.Book.outside c.self.view_is in
+    let new = stands g.R.Book g.C.Book c.carry_out.new.self g.met.R.Book.outside g.met.C.Book.outside refl in
     record {
       answer = sym (ap (λ s. verdict h s x) old ∙ c.in_ok-kind.ensures.1);
-      after = subst₂ (λ s t. Given h s t x) (sym old) (sym new) (given-carried h g.R.Book.holdings g.C.Book.holdings c.self.inside.parts c.carry_out.new.self x _ c.in_ok-kind.ensures.0 c.in_ok-kind.ensures.1 c.self.invariant c.carry_out.ensures.register c.carry_out.ensures.cash c.carry_out.ensures.trades);
+      after = subst₂ (λ s t. Given h s t x) (sym old) (sym new) (given-carried g.R.Book g.C.Book c.self.inside.parts c.carry_out.new.self x _ c.in_ok-kind.ensures.0 c.in_ok-kind.ensures.1 c.self.invariant c.carry_out.ensures.register c.carry_out.ensures.cash c.carry_out.ensures.trades);
       kept = tt;
       table = state-table;
     }
@@ -31,7 +30,7 @@ pub returns-in_err-kind : goal.returns-in_err-kind
 returns-in_err-kind g c =
     let h = rulebook g.R.Book.fixed g.C.Book.fixed in
     let x = c.args.x.now in
-    let old = stands h g.R.Book.holdings g.C.Book.holdings c.self.inside.parts c.args.self.now g.met.R.Book.outside g.met.C.Book.outside c.self.view_is in
+    let old = stands g.R.Book g.C.Book c.self.inside.parts g.met.R.Book.outside g.met.C.Book.outside c.self.view_is in
     let p = err_from_is_err_and c.from_residual.result c.from_residual.ensures.1 in
     rw (p.1, p.2) (record {
       answer = sym (ap (λ s. verdict h s x) old ∙ c.in_err-kind.ensures);

@@ -1,14 +1,12 @@
 use Rattle.std.proofs.Common.{sym, ap}
 use Rattle.rulebook.specs.Terms.{securities, cash}
 use Rattle.rulebook.specs.Rules.{Standing}
-use Rattle.ledger.specs.View.{rulebook}
 use Rattle.ledger.proofs.Views.{stands}
 use Rattle.ledger.proofs.Ledger.into_books.Goals as goal
 
 pub returns : goal.returns
 returns g c =
-    let h = rulebook g.R.Book.fixed g.C.Book.fixed in
-    let e = stands h g.R.Book.holdings g.C.Book.holdings c.self.inside.parts c.args.self g.met.R.Book.outside g.met.C.Book.outside c.self.view_is in
+    let e = stands g.R.Book g.C.Book c.self.inside.parts g.met.R.Book.outside g.met.C.Book.outside c.self.view_is in
     record {
       register = sym (ap (λ (s : Standing). s.book securities) e);
       cash = sym (ap (λ (s : Standing). s.book cash) e);

@@ -7,5 +7,5 @@ use Rattle.ledger.proofs.Ledger.securities.Goals as goal
 pub returns : goal.returns
 returns g c =
     let h = rulebook g.R.Book.fixed g.C.Book.fixed in
-    let e = stands h g.R.Book.holdings g.C.Book.holdings c.self.inside.parts c.args.self.now g.met.R.Book.outside g.met.C.Book.outside c.self.view_is in
+    let e = stands g.R.Book g.C.Book c.self.inside.parts g.met.R.Book.outside g.met.C.Book.outside c.self.view_is in
     c.holding.ensures ∙ ap (λ s. holding_question h s securities c.args.account c.args.item) (sym e)
