@@ -9,7 +9,7 @@ use Rattle.std.proofs.lemmas.Fmt.{IsAscii-decimal, parse-decimal, decimal_inject
 use Rattle.script.specs.Numerals.{numeral_from, numeral, ReadsNumber}
 use Rattle.script.specs.Requests.{then}
 
--- one's own words for the shelf
+-- the digits of a text, and the number that they write after those of n
 abbrev pub read_on : ℕ → List ℕ → ℕ
 read_on n [] = n
 read_on n (c ∷ cs) = read_on (n * 10 + (c - 48)) cs

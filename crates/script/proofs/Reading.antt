@@ -9,7 +9,7 @@ use Rattle.instruction.specs.Layout.{Fit}
 use Rattle.script.specs.declared.Position.{Position}
 use Rattle.script.specs.declared.Request.{Request}
 use Rattle.script.specs.declared.Request.TheVariants.{Instruct, Register, Cash}
-use Rattle.script.specs.Words.{is_letter, Word, letter, digits, space, other, end, first_word, after}
+use Rattle.script.specs.Words.{is_letter, Word, letter, first_word, after}
 use Rattle.script.specs.Requests.{then, fields_of, widths, filled, instruction_of, position_of, letter_of, kind_for, request_for, request_after, request_of, listed, request_in, used, unused, fields_text, text_as, position_text, written, WellFormed, ReadsLine}
 use Rattle.script.proofs.Fields.{Seen, seen, first-letter, Within, fields-sound, fields-complete, within-at}
 
@@ -111,10 +111,7 @@ for-good c bs q false false None x y z e = absurd (cc)
 
 after-good : (bs : List ℕ) (q : Request) (w : Word) → Seen bs w → request_after w (after bs) ≡ Some q → Good bs q
 after-good bs q (letter c) s e = subst (λ l. Good l q) (sym s) (for-good c (after bs) q (eqb c 81) (eqb c 75) (kind_for c) refl refl refl e)
-after-good bs q (digits ds) s e = absurd (cc)
-after-good bs q space s e = absurd (cc)
-after-good bs q other s e = absurd (cc)
-after-good bs q end s e = absurd (cc)
+after-good bs q w s e = search rules
 
 -- each well-formed request is read off its text
 at-letter : (c : ℕ) (bs : List ℕ) → is_letter c ≡ true → request_of (c ∷ bs) ≡ request_for c bs

@@ -1,4 +1,4 @@
-use Rattle.std.proofs.Common.{[], ◌∷◌, ◌++◌, vec_items, sym, ap, ◌∙◌, subst, arith, rules}
+use Rattle.std.proofs.Common.{vec_items, sym, subst, arith, rules}
 use Rattle.ledger.specs.View.{rulebook, standing_of}
 use Rattle.script.specs.Feeds.{lines_of}
 use Rattle.examination.proofs.Course.{Going, going_start, going_more, going_end, going-stop}
@@ -8,8 +8,7 @@ pub loop-line-init : goal.loop-line-init
 loop-line-init g c =
     let h = rulebook g.R.Book.fixed g.C.Book.fixed in
     let s = standing_of g.R.Book.holdings g.C.Book.holdings c.clear.new.self in
-    let bs = c.args.script.now in
-    (
+    let bs = c.args.script.now in (
       tt,
       tt,
       subst (λ rest. Going h bs (vec_items c.new-answers.result) s rest) (search rules)
@@ -20,14 +19,13 @@ pub loop-line-preserved : goal.loop-line-preserved
 loop-line-preserved g c =
     let h = rulebook g.R.Book.fixed g.C.Book.fixed in
     let s = standing_of g.R.Book.holdings g.C.Book.holdings c.loop-line.ledger in
-    let t = standing_of g.R.Book.holdings g.C.Book.holdings c.answer_line.new.ledger in
-    (
+    let t = standing_of g.R.Book.holdings g.C.Book.holdings c.answer_line.new.ledger in (
       tt,
       tt,
       going_more h c.args.script.now (vec_items c.loop-line.answers) (vec_items c.push_reserved.new.self) c.answer_line.result s t
           c.loop-line.line-iterator.rest.now c.next.new.self.rest.now c.in-Some.line.now c.loop-line.invariant.2 c.in-Some.ensures.steps
           c.answer_line.ensures.answer c.answer_line.ensures.after
-          (c.push_reserved.ensures.items ∙ ap (λ old. old ++ (c.answer_line.result ∷ [])) c.reserve.ensures.items),
+          (search rules),
     )
 
 pub returns : goal.returns
