@@ -36,6 +36,7 @@ trait Width: TryFrom<u64, Error = TryFromIntError> {
     // The number that a value is.
     ghost number: { Self → ℕ };
 
+    // A `u64` holds that too.
     ghost narrow: { most < 2 ^ 64 };
 
     // A number becomes a value exactly where the type holds it.
@@ -105,7 +106,7 @@ impl<'a> Tokens<'a> {
         token
     }
 
-    // A space and a number.
+    // A space and a number that the type holds.
     fn field<T: Width>(&mut self) -> Option<T>
         ensures value { option_map T.number result ≡ field_of T.most self.old.rest.now }
         ensures left { is_some result ≡ true → self.new.rest.now ≡ past self.old.rest.now }
@@ -137,7 +138,7 @@ pub fn number(digits: &[u8], most: u64) -> Option<u64>
     decimal(digits).filter(|number| *number <= most)
 }
 
-// A decimal number with no leading zero. `parse` alone would take a plus sign and leading zeros.
+// A decimal number with no leading zero. `parse` alone would take a plus sign and leading zeros too.
 fn decimal(digits: &[u8]) -> Option<u64>
     ensures { result ≡ numeral 18446744073709551615 digits.now }
 {
@@ -160,6 +161,7 @@ impl<'a> Lines<'a> {
         Lines { rest: script }
     }
 
+    // What `next` gives, with what is known of the bytes too.
     pub fn next_line(&mut self) -> Option<&'a [u8]>
         ensures line { MatchOption result (self.old.rest.now ≡ []) (λ l. (0 < length self.old.rest.now) × (l.now ≡ first_line self.old.rest.now)) }
         ensures left { self.new.rest.now ≡ after_line self.old.rest.now }

@@ -1,4 +1,4 @@
-use Rattle.std.proofs.Common.{[], ◌∷◌, ◌++◌, vec_items, sym, ap, ◌∙◌, subst, arith, rules}
+use Rattle.std.proofs.Common.{vec_items, sym, subst, arith, rules}
 use Rattle.ledger.specs.View.{rulebook, standing_of}
 use Rattle.script.specs.Feeds.{lines_of}
 use Rattle.examination.proofs.Course.{Going, going_start, going_more, going_end, going-stop}
@@ -25,7 +25,7 @@ loop-line-preserved g c =
       going_more h c.args.script.now (vec_items c.loop-line.answers) (vec_items c.push_reserved.new.self) c.answer_line.result s t
           c.loop-line.line-iterator.rest.now c.next.new.self.rest.now c.in-Some.line.now c.loop-line.invariant.2 c.in-Some.ensures.steps
           c.answer_line.ensures.answer c.answer_line.ensures.after
-          (c.push_reserved.ensures.items ∙ ap (λ old. old ++ (c.answer_line.result ∷ [])) c.reserve.ensures.items),
+          (search rules),
     )
 
 pub returns : goal.returns

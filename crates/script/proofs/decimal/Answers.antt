@@ -1,7 +1,6 @@
-use Rattle.std.proofs.Common.{◌≡◌, arith, lit<, rules}
+use Rattle.std.proofs.Common.{◌≡◌, lit<, rules}
 use Rattle.script.proofs.Num.{Plain, numeral-only, parsed, no-text}
 use Rattle.script.proofs.decimal.Goals as goal
-use Rattle.script.proofs.decimal.Goals.{in-48, in-48-2, in-48-3}
 
 pub returns-in_err-ok : goal.returns-in_err-ok
 returns-in_err-ok c =
@@ -10,10 +9,6 @@ returns-in_err-ok c =
 pub returns : goal.returns
 returns c =
     let bs = c.args.digits.now in
-    let plain : Plain bs = elim c.if-digits-lt2.branch [
-      | in-48 w ↦ (omega (arith, w.in-48), omega (arith, w.in-48), omega (arith, w.in-48), λ e. omega (arith, w.in-48))
-      | in-48-2 w ↦ (omega (arith, w.in-48), omega (arith, w.in-48), omega (arith, w.in-48), λ e. omega (arith, w.in-48))
-      | in-48-3 w ↦ (omega (arith, w.in-48), omega (arith, w.in-48), omega (arith, w.in-48), λ e. omega (arith, w.in-48))
-    ] in
+    let plain : Plain bs = search rules in
     let text : c.in_ok-ok.field-0.now ≡ bs = search rules in
     numeral-only 18446744073709551615 bs c.ok-2.result (lit< tt) (rw c.ok-2.ensures.value (parsed bs c.parse.result plain (rw text at c.parse.ensures.value.0)))
