@@ -1,7 +1,7 @@
 use Rattle.std.proofs.Common.{refl}
 use Rattle.drill.specs.Pictures.{half}
 use Rattle.drill.proofs.Joins.{join-both}
-use Rattle.drill.proofs.pictures.add_row.Goals as goal
+use Rattle.drill.proofs.pictures.SimulatedKind.add_row.Goals as goal
 
 pub returns : goal.returns
 returns c ok =
