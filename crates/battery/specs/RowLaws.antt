@@ -18,8 +18,11 @@ stored r bytes full n =
 pub fills : (r bytes : List ℕ) → length r ≡ 257 → length bytes ≡ 256 → length (written r bytes) ≡ 257
 fills r bytes full n = omega arith
 
+pub held-stored : (bytes : List ℕ) → length bytes ≡ 256 → held (0 ∷ bytes) ≡ Some bytes
+held-stored bytes n = ap Some (take_all 256 bytes (omega arith))
+
 pub reads_back : (r bytes : List ℕ) → length r ≡ 257 → length bytes ≡ 256 → held (written r bytes) ≡ Some bytes
-reads_back r bytes full n = ap Some (take_all 256 bytes (omega arith))
+reads_back r bytes full n = held-stored bytes n
 
 pub shows : Shows 257 held
 shows r x full bytes e =

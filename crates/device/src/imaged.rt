@@ -31,8 +31,8 @@ pub trait Layout<const ROW: usize> {
     ghost reads_back: { (r bytes : List ℕ) → length r ≡ ROW → length bytes ≡ 256 → shown (written r bytes) ≡ Some bytes };
 }
 
-// An image with one row to a block, and how many calls are left. An image of any length and any bytes serves: what is left
-// of it past the whole rows, no block has.
+// An image with one row to a block, and how many calls are left. Whoever changes a field shows that what is said below of
+// the fields holds still.
 #[derive(Drop)]
 pub struct Imaged<const ROW: usize> {
     pub image: Vec<u8>,
@@ -66,6 +66,7 @@ fn store_row<const ROW: usize, L: Layout<ROW>>(row: &mut [u8], bytes: &[u8; BLOC
 }
 
 impl<const ROW: usize> Imaged<ROW> {
+    // An image of any length and any bytes serves: no block has what is left of it past the whole rows.
     pub fn new(image: Vec<u8>, calls: u32) -> Imaged<ROW>
         ensures image { result.image ≡ image }
         ensures left { result.left ≡ calls }

@@ -1,13 +1,14 @@
 -- The list of loose blocks.
-use Rattle.std.proofs.Common.{◌≡◌, ℕ, ◌+◌, ◌*◌, ◌<◌, ◌≤◌, Bool, true, false, cond, not, ◌||◌, eqb, ltb, ◌≢◌, List, [], ◌∷◌, ◌++◌, length, get_or, take, Some, None, Option, Vec, vec_items, le_refl, sym, refl, ap, ◌∙◌, inl, inr, arith, lit<}
-use Rattle.std.proofs.lemmas.List.{take_more, length_push}
+use Rattle.std.proofs.Common.{◌≡◌, ℕ, zero, suc, ◌+◌, ◌*◌, ◌<◌, ◌≤◌, Bool, true, false, cond, ◌||◌, eqb, ltb, ◌≢◌, List, [], ◌∷◌, ◌++◌, length, get_or, take, drop, Some, None, Option, Vec, vec_items, sym, refl, ap, ◌∙◌, inl, inr, arith}
+use Rattle.std.specs.Simd.{first_chunks}
+use Rattle.std.proofs.lemmas.List.{take_more, length_push, drop-drop}
 use Rattle.std.proofs.lemmas.Bool.{false≢true, ne_eqb, eq-eqb, or_left, or_right, or_from, or_cases, both_ways, cases_Bool, cases_eq, cond-true, cond-false, cond_both, ltb-true}
 use Rattle.std.specs.declared.alloc.Global.{Global}
 use Rattle.device.specs.Images.{blocks, row, put, of_row, EachRow}
-use Rattle.device.proofs.Rows.{row_before, row-full, row-byte, each_again, each-as}
+use Rattle.device.proofs.Rows.{row_before, row-full, each_again, each-as}
 use Rattle.device.proofs.Meaning.{of-row-here}
 use Rattle.simulated.specs.Rows.{is_loose, synced}
-use Rattle.simulated.specs.Lists.{names, Names, Lists, Short, NamedIn, Longer, Noted, synced_if}
+use Rattle.simulated.specs.Lists.{names, Names, Lists, Short, Longer, Noted, synced_if}
 use Rattle.simulated.specs.RowLaws.{synced-firm, synced-same}
 
 pub names-last : (xs : List ℕ) (y : ℕ) → names (xs ++ (y ∷ [])) y ≡ true
@@ -34,11 +35,6 @@ longer-added old new loose b firm e = record {
   short = rw (e, firm) (omega (arith, length_push old b));
 }
 
--- one that was loose is noted already
-pub noted-loose : (list : Option (Vec ℕ Global)) (loose : Bool) (b : ℕ) → loose ≡ true → NamedIn list b → Noted list list loose b
-noted-loose None loose b t h = tt
-noted-loose (Some v) loose b t h = record { kept = λ k e. e; here = h; short = rw t (le_refl (length (vec_items v))) }
-
 -- what a list says of a block that is loose
 pub lists_named : (list image : List ℕ) (b : ℕ) → Names list image → b < blocks 514 image → is_loose (row 514 image b) ≡ true → names list b ≡ true
 lists_named list image b h l e = h b (of-row-here 514 is_loose false image b l ∙ e)
@@ -50,10 +46,6 @@ lists-from list image h b e =
       | inl t ↦ h b (ltb-true b (blocks 514 image) t) (sym (cond-true (ltb b (blocks 514 image)) _ _ t) ∙ e)
       | inr f ↦ absurd (false≢true (sym (cond-false (ltb b (blocks 514 image)) _ _ f) ∙ e))
     ]
-
--- the loose byte of block b, in the image
-pub loose-byte : (image : List ℕ) (b : ℕ) → is_loose (row 514 image b) ≡ not (eqb (get_or image (514 * b + 257) 0) 0)
-loose-byte image b = ap (λ (x : ℕ). not (eqb x 0)) (row-byte 514 image b 257 (lit< tt))
 
 -- a block that was noted may be loose then
 pub lists-noted : (list list' : Option (Vec ℕ Global)) (image image' : List ℕ) (loose : Bool) (b : ℕ) → Noted list list' loose b → ((k : ℕ) → k ≢ b → of_row 514 is_loose false image' k ≡ of_row 514 is_loose false image k) → Lists list image → Lists list' image'
@@ -110,3 +102,11 @@ listed-all size xs ys list e h s =
             | inr firm ↦ sym (synced-same b r firm)
           ]
     ])
+
+-- a row of the image, among the first n rows as arrays
+pub chunk-row : (n : ℕ) (xs : List ℕ) (b : ℕ) (d : List ℕ) → b < n → get_or (first_chunks 514 n xs) b d ≡ row 514 xs b
+chunk-row zero xs b d h = absurd (omega arith)
+chunk-row (suc n) xs zero d h = refl
+chunk-row (suc n) xs (suc b) d h =
+    chunk-row n (drop 514 xs) b d (omega arith)
+    ∙ ap (take 514) (drop-drop (514 * b) 514 xs) ∙ ap (λ (k : ℕ). take 514 (drop k xs)) (omega arith)

@@ -1,6 +1,6 @@
 -- What a sync and a restart of an image mean.
-use Rattle.std.proofs.Common.{◌≡◌, ℕ, zero, suc, ◌+◌, ◌*◌, ◌<◌, ◌≤◌, Bool, true, false, cond, List, [], length, get_or, drop, Some, None, Option, IsSomeAnd, MatchOption, Vec, Iter, Bor, vec_items, sym, refl, ap, ◌∙◌, inl, inr, le_refl, add-one, arith, lit<}
-use Rattle.std.proofs.lemmas.Bool.{false≢true, cases_Bool, cases_eq, cases_lt, cond_both, cond-true, cond-false}
+use Rattle.std.proofs.Common.{◌≡◌, ℕ, zero, suc, ◌+◌, ◌*◌, ◌<◌, ◌≤◌, Bool, true, false, cond, List, [], length, get_or, drop, Some, None, Option, IsSomeAnd, MatchOption, Vec, Iter, Bor, vec_items, sym, refl, ap, ◌∙◌, inl, inr, add-one, arith, lit<}
+use Rattle.std.proofs.lemmas.Bool.{false≢true, cases_Bool, cases_eq, cond_both, cond-true, cond-false}
 use Rattle.std.specs.declared.alloc.Global.{Global}
 use Rattle.std.specs.Option.{option_copied, unwrap_or}
 use Rattle.std.specs.Slice.Iter.{iter_steps, iter_rest}
@@ -29,16 +29,6 @@ module _ (xs rem : List ℕ) (b : ℕ) (r : List ℕ) (full : length r ≡ 514) 
 
   restarted-bytes : Bytes rem → Bytes r → Bytes (restarted xs rem b r)
   restarted-bytes hm hr = cond_both (is_loose r) _ _ Bytes (λ _. revived-bytes (get_or rem (loose_below xs b) 0) r (hm (loose_below xs b)) hr) (λ _. hr)
-
-pub loose-mono : (xs : List ℕ) (a n : ℕ) → a ≤ n → loose_below xs a ≤ loose_below xs n
-loose-mono xs a zero h = let e : a ≡ 0 = omega arith in rw e (le_refl 0)
-loose-mono xs a (suc n) h =
-    elim (cases_lt n a) [
-      | inl l ↦ let e : a ≡ suc n = omega arith in rw e (le_refl (loose_below xs (suc n)))
-      | inr g ↦
-          let before = loose-mono xs a n g in
-          cond_both (is_loose (row 514 xs n)) _ _ (λ m. loose_below xs a ≤ m) (λ _. omega arith) (λ _. omega arith)
-    ]
 
 -- a write that makes a block loose: one more is loose, if the block was not
 module _ (image : List ℕ) (b : ℕ) (r : List ℕ) (in-range : 514 * b + 514 ≤ length image) (full : length r ≡ 514) (loose : is_loose r ≡ true) where

@@ -4,7 +4,7 @@ ghost use Rattle.device.specs.Images.{blocks, EachRow};
 ghost use Rattle.simulated.specs.Rows.{loose_below, synced};
 ghost use Rattle.simulated.specs.Lists.{Lists, NamedIn, Names, Noted, Short};
 
-use crate::rows::ROW;
+use crate::rows::{ROW, row_is_loose};
 use crate::sweeps::{sync_all, sync_listed};
 use std::alloc::{AllocError, Global};
 
@@ -21,10 +21,11 @@ fn list_loose(image: &[u8], size: u32, heap: Global) -> Result<Vec<u32>, AllocEr
     ensures listed { IfOk result (λ v. Names v.items image.now) }
     ensures short { IfOk result (λ v. length v.items ≤ loose_below image.now size) }
 {
+    let (rows, _) = image.as_chunks::<ROW>();
     let mut list = Vec::new(heap);
-    for b in 0..size {
-        if image[ROW * b as usize + 257] != 0 {
-            list.push(b)?;
+    for (b, row) in rows[..size as usize].iter().enumerate() {
+        if row_is_loose(row) {
+            list.push(b as u32)?;
         }
     }
     Ok(list)

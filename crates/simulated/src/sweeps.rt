@@ -1,4 +1,5 @@
-// Many rows of an image.
+// Many rows of an image. A change goes by block numbers: of a slice that `chunks_mut` or `as_chunks_mut` lent, a proof knows
+// nothing but the length.
 ghost use Rattle.std.specs.Prelude.{◌≡◌, ◌+◌, ◌*◌, ◌≤◌, length};
 ghost use Rattle.device.specs.Images.{blocks, put, row, EachRow};
 ghost use Rattle.simulated.specs.Rows.{synced, restarted};
