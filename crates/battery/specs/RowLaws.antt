@@ -6,16 +6,23 @@ use Rattle.std.proofs.lemmas.List.{take_all, drop_all, append-nil}
 use Rattle.std.proofs.lemmas.Bool.{cases_Bool, cond-true, cond-false}
 use Rattle.device.specs.Bytes.{Bytes}
 use Rattle.device.specs.Images.{kept, readable, held}
-use Rattle.device.proofs.Splices.{store_is, cut-bytes}
 use Rattle.device.proofs.Meaning.{Shows}
+use Rattle.device.proofs.Splices.{store_is, cut-bytes}
+use Rattle.battery.specs.Rows.{written}
 
 pub stored : (r bytes : List ℕ) → length r ≡ 257 → length bytes ≡ 256 → put_mid 1 256 (slice_set r 0 0) bytes ≡ 0 ∷ bytes
 stored r bytes full n =
     store_is r bytes 0 256 0 (omega arith) (omega arith)
     ∙ ap (λ (zs : List ℕ). 0 ∷ (bytes ++ zs)) (drop_all (0 + length (0 ∷ bytes)) r (omega arith)) ∙ ap (λ (zs : List ℕ). 0 ∷ zs) (append-nil bytes)
 
+pub fills : (r bytes : List ℕ) → length r ≡ 257 → length bytes ≡ 256 → length (written r bytes) ≡ 257
+fills r bytes full n = omega arith
+
 pub held-stored : (bytes : List ℕ) → length bytes ≡ 256 → held (0 ∷ bytes) ≡ Some bytes
 held-stored bytes n = ap Some (take_all 256 bytes (omega arith))
+
+pub reads_back : (r bytes : List ℕ) → length r ≡ 257 → length bytes ≡ 256 → held (written r bytes) ≡ Some bytes
+reads_back r bytes full n = held-stored bytes n
 
 pub shows : Shows 257 held
 shows r x full bytes e =

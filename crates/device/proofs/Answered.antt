@@ -1,11 +1,11 @@
 -- What an answer tells, and how a read's promise is made from what the block holds.
-use Rattle.std.proofs.Common.{◌≡◌, ℕ, ◌-◌, ◌<◌, true, false, eqb, List, length, is_some, Some, None, Ok, Err, Option, sym, refl, ap, ◌∙◌, subst, inl, inr, arith}
-use Rattle.std.proofs.lemmas.Bool.{true≢false, false≢true, cond-true, cond-false, lt-leb, eq-eqb, eqb-true, eqb-false, cases_Bool}
-use Rattle.answers.specs.declared.Refusal.TheVariants.{NoCalls, Unreadable}
+use Rattle.std.proofs.Common.{◌≡◌, ℕ, ◌<◌, eqb, List, length, Some, None, Ok, Err, Option, sym, refl, ap, ◌∙◌, inl, inr, arith}
+use Rattle.std.proofs.lemmas.Bool.{cond-true, cond-false, lt-leb, eq-eqb, eqb-true, eqb-false, cases_Bool}
+use Rattle.answers.specs.declared.Refusal.TheVariants.{NoCalls}
 use Rattle.answers.specs.declared.Fault.{Fault}
 use Rattle.answers.specs.Faults.{plain, at_block}
 use Rattle.device.specs.Medium.{Medium}
-use Rattle.device.specs.Calls.{Answer, admitted, and_then, write-answer, found, filled, SameBlocks, Read, Write, Sync}
+use Rattle.device.specs.Calls.{Answer, admitted, and_then, write-answer, found, filled, Read, Write, Sync}
 
 -- a call on block b with n bytes that passed the checks
 pub record Passed (size left b n : ℕ) : Type 0 where
@@ -80,19 +80,3 @@ pub read-passed : {m m' : Medium} {b : ℕ} {old new : List ℕ} → Read m m' b
 read-passed {m} {m'} {b} {old} {new} r =
     let p = then-passed (write-answer m b (length old)) (found b (m.holds b)) r.answer in
     (passed m.size m.left b (length old) p.0, held_found b (m.holds b) old p.1 ∙ ap Some (sym r.buffer))
-
-module _ (m m' : Medium) (b : ℕ) (old new : List ℕ) (ok : write-answer m b (length old) ≡ Ok tt) (same : SameBlocks m m') (spent : m'.left ≡ m.left - 1) where
-  read-either : (o : Option (List ℕ)) → m.holds b ≡ o → new ≡ filled o old → Read m m' b old new (found b o)
-  read-either None holds e = record { answer = rw (ok, holds); buffer = e; left = rw ok spent; same = same }
-  read-either (Some bytes) holds e = record { answer = rw (ok, holds); buffer = rw holds e; left = rw ok spent; same = same }
-
-  pub read_told : (o : Option (List ℕ)) (r : Answer) → m.holds b ≡ o → new ≡ filled o old → found b o ≡ r → Read m m' b old new r
-  read_told o r holds e f = subst (Read m m' b old new) f (read-either o holds e)
-
-pub found_some : (b : ℕ) (o : Option (List ℕ)) → is_some o ≡ true → found b o ≡ Ok tt
-found_some b None e = absurd (false≢true e)
-found_some b (Some bytes) e = refl
-
-pub found_none : (b : ℕ) (o : Option (List ℕ)) → is_some o ≡ false → found b o ≡ Err (at_block Unreadable b)
-found_none b None e = refl
-found_none b (Some bytes) e = absurd (true≢false e)

@@ -2,10 +2,10 @@
 use Rattle.std.proofs.Common.{◌≡◌, ℕ, ◌-◌, ◌*◌, ◌^◌, ◌<◌, ◌≤◌, Bool, false, ltb, List, length, Some, None, Ok, Option, sym, refl, ap, ◌∙◌, inl, inr, arith}
 use Rattle.std.proofs.lemmas.Bool.{lt-ltb, le-ltb, ltb-true, cases_Bool, cond-true, cond-false}
 use Rattle.device.specs.Medium.{Bounded}
-use Rattle.device.specs.Calls.{Answer, admitted, found, filled, Elsewhere, Read, Write}
+use Rattle.device.specs.Calls.{admitted, Elsewhere, Write}
 use Rattle.device.specs.Bytes.{Bytes}
 use Rattle.device.specs.Images.{blocks, row, put, of_row, imaged}
-use Rattle.device.proofs.Answered.{passed, read_told}
+use Rattle.device.proofs.Answered.{passed}
 use Rattle.device.proofs.Splices.{cut-bytes}
 use Rattle.device.proofs.Rows.{room, row-full, same_blocks, put-length, row_same, row_other}
 
@@ -76,14 +76,6 @@ module _ (w : ℕ) (shown : List ℕ → Option (List ℕ)) (is_loose : List ℕ
     put-here =
         let here : b < blocks w (put w image b r) = rw (same_blocks w image (put w image b r) fits) in-range in
         of-row-here w shown None (put w image b r) b here ∙ ap shown (row_same w image b r (room w image b in-range) full)
-
-  -- an admitted read, of a row that was seen
-  pub read-row : (image : List ℕ) (left b : ℕ) (old new seen : List ℕ) (r : Answer) → admitted (blocks w image) left b (length old) ≡ Ok tt → seen ≡ row w image b → new ≡ filled (shown seen) old → found b (shown seen) ≡ r → Read (imaged w shown is_loose image left) (imaged w shown is_loose image (left - 1)) b old new r
-  read-row image left b old new seen r ok is e f =
-      let in-range = (passed (blocks w image) left b (length old) ok).in-range in
-      read_told (imaged w shown is_loose image left) (imaged w shown is_loose image (left - 1)) b old new ok
-      (record { size = refl; holds = λ k. refl; loose = λ k. refl }) refl
-      (shown seen) r (of-row-here w shown None image b in-range ∙ ap shown (sym is)) e f
 
   -- an admitted write, by which the row reads as the bytes
   pub write-row : (image : List ℕ) (left b : ℕ) (bytes r : List ℕ) → admitted (blocks w image) left b (length bytes) ≡ Ok tt → length r ≡ w → shown r ≡ Some bytes → Write (imaged w shown is_loose image left) (imaged w shown is_loose (put w image b r) (left - 1)) b bytes (Ok tt)

@@ -1,5 +1,5 @@
 -- Rows of an image, at any width.
-use Rattle.std.proofs.Common.{◌≡◌, ℕ, ◌+◌, ◌-◌, ◌*◌, ◌/◌, ◌%◌, ◌<◌, ◌≤◌, min, ◌≢◌, List, length, get_or, take, drop, Vec, sym, refl, ap, ◌∙◌, subst, inl, inr, mod-lt, mul_comm, mul-le-mul_left, mul-add, div-mul-le_self, arith, length-drop, length-take}
+use Rattle.std.proofs.Common.{◌≡◌, ℕ, ◌+◌, ◌-◌, ◌*◌, ◌/◌, ◌%◌, ◌<◌, ◌≤◌, min, ◌≢◌, List, length, get_or, take, drop, Vec, sym, ap, ◌∙◌, subst, inl, inr, mod-lt, mul_comm, mul-le-mul_left, mul-add, div-mul-le_self, arith, length-drop, length-take}
 use native.Mathlib.Nat.{div-add-mod}
 use borrow.Rule.Slice.PartMut.{put_mid}
 use Rattle.std.specs.Vec.{with_items}
@@ -25,9 +25,6 @@ room w image b h =
 
 pub row-full : (w : ℕ) (image : List ℕ) (b : ℕ) → w * b + w ≤ length image → length (row w image b) ≡ w
 row-full w image b h = simp (length-take, length-drop) (omega arith)
-
-pub row-byte : (w : ℕ) (image : List ℕ) (b k : ℕ) → k < w → get_or (row w image b) k 0 ≡ get_or image (w * b + k) 0
-row-byte w image b k h = get_or-take w (drop (w * b) image) k 0 h ∙ get_or-drop (w * b) image k 0
 
 pub same_blocks : (w : ℕ) (xs ys : List ℕ) → length ys ≡ length xs → blocks w ys ≡ blocks w xs
 same_blocks w xs ys e = ap (λ (n : ℕ). min (n / w) 65535) e
@@ -67,9 +64,6 @@ lent-put w v s b new r h lent is full =
     mid-is s new (w * b) (w * b + w - w * b) (omega (arith, ap length is))
     ∙ ap (λ (zs : List ℕ). splice zs (w * b) new) lent ∙ ap (λ (zs : List ℕ). put w v.items b zs) is in
     with_items_is v _ (ap length mid ∙ put-length w v.items b r (room w v.items b h) full ∙ sym v.ok.0) ∙ mid
-
-pub each_none : (w : ℕ) (f : ℕ → List ℕ → List ℕ) (xs : List ℕ) → EachRow w f 0 xs xs
-each_none w f xs = record { len = refl; rows = λ b h. absurd (omega arith); rest = λ k h. refl }
 
 -- what is not yet gone over is as it was
 pub each_next : (w : ℕ) (f : ℕ → List ℕ → List ℕ) (n : ℕ) (xs ys : List ℕ) → EachRow w f n xs ys → row w ys n ≡ row w xs n
@@ -112,6 +106,13 @@ each_again w f g n xs ys b r h s lt full e others =
 -- the same change, said otherwise
 pub each-as : (w : ℕ) (f g : ℕ → List ℕ → List ℕ) (n : ℕ) (xs ys : List ℕ) → EachRow w f n xs ys → ((b : ℕ) → b < n → f b (row w xs b) ≡ g b (row w xs b)) → EachRow w g n xs ys
 each-as w f g n xs ys s h = record { len = s.len; rows = λ b l. s.rows b l ∙ h b l; rest = s.rest }
+
+-- the Vec of the image, after a change of all its rows: s is what the image lent, and new what the slice holds
+pub lent-each : (w : ℕ) (f : List ℕ → ℕ → List ℕ → List ℕ) (v : Vec ℕ Global) (s new : List ℕ) (n : ℕ) → n ≡ blocks w v.items → s ≡ v.items → EachRow w (f s) n s new → EachRow w (f v.items) (blocks w v.items) v.items (with_items v new).items
+lent-each w f v s new n sized lent each =
+    let here : EachRow w (f v.items) (blocks w v.items) v.items new =
+    subst (λ (k : ℕ). EachRow w (f v.items) k v.items new) sized (subst (λ (zs : List ℕ). EachRow w (f zs) n zs new) lent each) in
+    subst (λ (zs : List ℕ). EachRow w (f v.items) (blocks w v.items) v.items zs) (sym (with_items_is v new (here.len ∙ sym v.ok.0))) here
 
 -- rows of bytes make an image of bytes
 pub each-bytes : (w : ℕ) (f : ℕ → List ℕ → List ℕ) (n : ℕ) (xs ys : List ℕ) → 0 < w → EachRow w f n xs ys → Bytes xs → ((b : ℕ) → b < n → Bytes (row w xs b) → Bytes (f b (row w xs b))) → Bytes ys

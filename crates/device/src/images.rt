@@ -16,15 +16,8 @@ pub fn whole_blocks(image: &[u8], width: usize) -> u32
     ensures value { result ≡ blocks width image.now }
     ensures bytes { Bytes image.now }
 {
-    if image.is_empty() || width == 0 {
-        return 0;
-    }
-    let rows = image.len() / width;
-    if rows < MOST_BLOCKS {
-        rows as u32
-    } else {
-        MOST_BLOCKS as u32
-    }
+    let rows = image.len().checked_div(width).unwrap_or(0);
+    rows.min(MOST_BLOCKS) as u32
 }
 
 // The checks that a read and a write share, in order.

@@ -7,9 +7,11 @@ ghost use Rattle.device.specs.Medium.{Medium, Bounded};
 ghost use Rattle.device.specs.Calls.{Read, Write, Sync};
 ghost use Rattle.device.specs.Power.{Restart};
 
+mod imaged;
 mod images;
 
 use answers::Fault;
+pub use imaged::{Imaged, Layout, held_bytes};
 pub use images::{admit, whole_blocks};
 
 // How many bytes a block has.

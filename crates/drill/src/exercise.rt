@@ -6,6 +6,21 @@ ghost use Rattle.drill.specs.Drills.{Armed, Drilled, looked};
 use answers::Fault;
 use device::{Device, PoweredDevice};
 
+// What a drill writes: the same bytes to two blocks, of which it syncs the first and leaves the second loose.
+#[derive(Clone, Copy)]
+pub struct Writes<'a> {
+    pub kept: u32,
+    pub loose: u32,
+    pub bytes: &'a [u8],
+}
+
+// A cut of the power: how many calls the restart gives, and the remains that it takes.
+#[derive(Clone, Copy)]
+pub struct Cut<'a> {
+    pub calls: u32,
+    pub remains: &'a [u8],
+}
+
 // The first and the last byte of a block.
 #[derive(Clone, Copy)]
 pub struct Ends {
@@ -14,29 +29,26 @@ pub struct Ends {
 }
 
 // Writes and syncs one block, and writes another and does not sync it.
-fn arm<D: Device>(device: &mut D, kept: u32, loose: u32, bytes: &[u8]) -> Result<(), Fault>
-    ensures { Armed (D.Device.medium device.old) (D.Device.medium device.new) kept loose bytes.now result }
+fn arm<D: Device>(device: &mut D, writes: &Writes<'_>) -> Result<(), Fault>
+    ensures { Armed (D.Device.medium device.old) (D.Device.medium device.new) writes.now.kept writes.now.loose writes.now.bytes.now result }
 {
-    device.write(kept, bytes)?;
+    device.write(writes.kept, writes.bytes)?;
     device.sync()?;
-    device.write(loose, bytes)
+    device.write(writes.loose, writes.bytes)
 }
 
 // Writes and syncs one block, writes another and does not sync it, cuts the power, and reads the first block back.
 pub fn drill<P: PoweredDevice>(
     device: &mut P,
-    kept: u32,
-    loose: u32,
-    bytes: &[u8],
-    calls: u32,
-    remains: &[u8],
+    writes: &Writes<'_>,
+    cut: &Cut<'_>,
     back: &mut [u8],
 ) -> Result<(), Fault>
-    ensures { Drilled (P.Device.medium device.old) (P.Device.medium device.new) kept loose bytes.now (min calls P.PoweredDevice.most) back.old back.new result }
+    ensures { Drilled (P.Device.medium device.old) (P.Device.medium device.new) writes.now.kept writes.now.loose writes.now.bytes.now (min cut.now.calls P.PoweredDevice.most) back.old back.new result }
 {
-    arm(device, kept, loose, bytes)?;
-    device.restart(calls, remains);
-    device.read(kept, back)
+    arm(device, writes)?;
+    device.restart(cut.calls, cut.remains);
+    device.read(writes.kept, back)
 }
 
 // Reads a block, and tells its ends.

@@ -7,10 +7,26 @@ mod pictures;
 use answers::Fault;
 use battery::Battery;
 use device::{Device, PoweredDevice};
-use exercise::{Ends, drill, look};
-use pictures::{ROWS, TAIL, battery_image, simulated_image};
+use exercise::{Cut, Ends, Writes, drill, look};
+use pictures::{Kind, ROWS, TAIL, image_with};
 use simulated::Simulated;
 use std::io;
+
+// The cuts that each kind of device is put to.
+static CUTS: [Cut<'static>; 3] = [
+    Cut {
+        calls: 0,
+        remains: &[1, 0, 2],
+    },
+    Cut {
+        calls: 1,
+        remains: &[3, 3, 200, 4, 1, 0, 9, 9],
+    },
+    Cut {
+        calls: u32::MAX,
+        remains: &[],
+    },
+];
 
 fn tell_answer(rt: &HostRuntime, answer: Result<(), Fault>) -> io::Result<()> {
     match answer {
@@ -44,10 +60,9 @@ fn tell_all<D: Device>(rt: &HostRuntime, device: &mut D) -> io::Result<()> {
 fn cut_and_drill<P: PoweredDevice>(
     rt: &HostRuntime,
     device: &mut P,
-    calls: u32,
-    remains: &[u8],
+    cut: &Cut<'_>,
 ) -> io::Result<()> {
-    device.restart(calls, remains);
+    device.restart(cut.calls, cut.remains);
     println!(rt; " cut, then block 0 twice")?;
     tell_block(rt, device, 0)?;
     tell_block(rt, device, 0)?;
@@ -55,7 +70,12 @@ fn cut_and_drill<P: PoweredDevice>(
     println!(rt; " all blocks")?;
     tell_all(rt, device)?;
     let mut back = [0u8; 256];
-    let answer = drill(device, 0, 1, &[77; 256], calls, remains, &mut back);
+    let writes = Writes {
+        kept: 0,
+        loose: 1,
+        bytes: &[77; 256],
+    };
+    let answer = drill(device, &writes, cut, &mut back);
     tell_answer(rt, answer)?;
     device.restart(u32::MAX, &[]);
     tell_all(rt, device)
@@ -68,31 +88,26 @@ fn tell_image(rt: &HostRuntime, image: &Vec<u8>) -> io::Result<()> {
     println!(rt; " image of {length} bytes, the last {last}")
 }
 
-fn cut_simulated(rt: &HostRuntime, calls: u32, remains: &[u8]) -> io::Result<()> {
-    let given = remains.len();
-    println!(rt; "simulated, {calls} calls, {given} bytes of remains")?;
-    let mut image = simulated_image(rt.alloc(), &ROWS)?;
+fn tell_cut<K: Kind>(rt: &HostRuntime, cut: &Cut<'_>) -> io::Result<()> {
+    let name = K::NAME;
+    let calls = cut.calls;
+    let given = cut.remains.len();
+    println!(rt; "{name}, {calls} calls, {given} bytes of remains")?;
+    let mut image = image_with::<K>(rt.alloc(), &ROWS)?;
     image.extend_from_slice(&TAIL)?;
-    let mut device = Simulated::new(image, 0);
-    cut_and_drill(rt, &mut device, calls, remains)?;
-    tell_image(rt, &device.into_image())
+    let mut device = K::of_image(image);
+    cut_and_drill(rt, &mut device, cut)?;
+    tell_image(rt, &device.back_to_image())
 }
 
-fn cut_battery(rt: &HostRuntime, calls: u32, remains: &[u8]) -> io::Result<()> {
-    let given = remains.len();
-    println!(rt; "battery, {calls} calls, {given} bytes of remains")?;
-    let mut image = battery_image(rt.alloc(), &ROWS)?;
-    image.extend_from_slice(&TAIL)?;
-    let mut device = Battery::new(image, 0);
-    cut_and_drill(rt, &mut device, calls, remains)?;
-    tell_image(rt, &device.into_image())
+fn tell_cuts<K: Kind>(rt: &HostRuntime) -> io::Result<()> {
+    for cut in &CUTS {
+        tell_cut::<K>(rt, cut)?;
+    }
+    Ok(())
 }
 
 fn main(rt: HostRuntime) -> io::Result<()> {
-    cut_simulated(&rt, 0, &[1, 0, 2])?;
-    cut_simulated(&rt, 1, &[3, 3, 200, 4, 1, 0, 9, 9])?;
-    cut_simulated(&rt, u32::MAX, &[])?;
-    cut_battery(&rt, 0, &[1, 0, 2])?;
-    cut_battery(&rt, 1, &[3, 3, 200, 4, 1, 0, 9, 9])?;
-    cut_battery(&rt, u32::MAX, &[])
+    tell_cuts::<Simulated>(&rt)?;
+    tell_cuts::<Battery>(&rt)
 }

@@ -1,8 +1,11 @@
 // Images to make devices from.
-ghost use Rattle.std.specs.Prelude.{◌≡◌, true, ◌++◌, is_ok, IfOk};
+ghost use Rattle.std.specs.Prelude.{◌≡◌, ℕ, true, List, ◌++◌, is_ok, IfOk};
 ghost use Rattle.std.specs.List.{flat_map};
 ghost use Rattle.drill.specs.Pictures.{half, whole_row, kept_row};
 
+use battery::Battery;
+use device::PoweredDevice;
+use simulated::Simulated;
 use std::alloc::{AllocError, Global};
 
 // A block of an image: its kept bytes are all alike, and so are its newer ones, which only a simulated device has.
@@ -77,32 +80,66 @@ fn add_half(image: &mut Vec<u8>, flag: u8, byte: u8) -> Result<(), AllocError>
     image.extend_from_slice(&[byte; 256])
 }
 
-// Adds the two halves of a row.
-fn add_row(image: &mut Vec<u8>, row: Row) -> Result<(), AllocError>
-    ensures { is_ok result ≡ true → image.new.items ≡ image.old.items ++ whole_row row }
-{
-    add_half(image, row.flag, row.kept)?;
-    add_half(image, row.loose, row.newer)
+// A kind of device: what it is called, what of a row its image holds, and how it comes from an image and gives it back.
+pub(crate) trait Kind: PoweredDevice + Drop {
+    ghost use Rattle.drill.specs.declared.pictures.Row.{Row};
+
+    ghost pictured: { Row → List ℕ };
+
+    const NAME: &'static str;
+
+    fn add_row(image: &mut Vec<u8>, row: Row) -> Result<(), AllocError>
+        ensures { is_ok result ≡ true → image.new.items ≡ image.old.items ++ pictured row };
+
+    fn of_image(image: Vec<u8>) -> Self;
+
+    fn back_to_image(self) -> Vec<u8>;
 }
 
-// The image of a simulated device with these blocks.
-pub(crate) fn simulated_image(heap: Global, rows: &[Row]) -> Result<Vec<u8>, AllocError>
-    ensures { IfOk result (λ v. v.items ≡ flat_map whole_row rows.now) }
+impl Kind for Simulated {
+    ghost pictured = { whole_row };
+
+    const NAME: &'static str = "simulated";
+
+    fn add_row(image: &mut Vec<u8>, row: Row) -> Result<(), AllocError> {
+        add_half(image, row.flag, row.kept)?;
+        add_half(image, row.loose, row.newer)
+    }
+
+    fn of_image(image: Vec<u8>) -> Simulated {
+        Simulated::new(image, 0)
+    }
+
+    fn back_to_image(self) -> Vec<u8> {
+        self.into_image()
+    }
+}
+
+impl Kind for Battery {
+    ghost pictured = { kept_row };
+
+    const NAME: &'static str = "battery";
+
+    fn add_row(image: &mut Vec<u8>, row: Row) -> Result<(), AllocError> {
+        add_half(image, row.flag, row.kept)
+    }
+
+    fn of_image(image: Vec<u8>) -> Battery {
+        Battery::new(image, 0)
+    }
+
+    fn back_to_image(self) -> Vec<u8> {
+        self.into_image()
+    }
+}
+
+// The image of a device of this kind with these blocks.
+pub(crate) fn image_with<K: Kind>(heap: Global, rows: &[Row]) -> Result<Vec<u8>, AllocError>
+    ensures { IfOk result (λ v. v.items ≡ flat_map K.pictured rows.now) }
 {
     let mut image = Vec::new(heap);
     for row in rows {
-        add_row(&mut image, *row)?;
+        K::add_row(&mut image, *row)?;
     }
     Ok(image)
-}
-
-// The image of a battery-backed device with these blocks.
-pub(crate) fn battery_image(heap: Global, rows: &[Row]) -> Result<Vec<u8>, AllocError>
-    ensures { IfOk result (λ v. v.items ≡ flat_map kept_row rows.now) }
-{
-    let mut bytes = Vec::new(heap);
-    for row in rows {
-        add_half(&mut bytes, row.flag, row.kept)?;
-    }
-    Ok(bytes)
 }

@@ -1,12 +1,14 @@
 -- The list of loose blocks.
-use Rattle.std.proofs.Common.{◌≡◌, ℕ, ◌+◌, ◌*◌, ◌<◌, ◌≤◌, Bool, true, false, cond, not, ◌||◌, eqb, ltb, ◌≢◌, List, [], ◌∷◌, ◌++◌, length, get_or, take, sym, refl, ap, ◌∙◌, inl, inr, arith, lit<}
-use Rattle.std.proofs.lemmas.List.{take_more, length_push}
-use Rattle.std.proofs.lemmas.Bool.{false≢true, ne_eqb, eq-eqb, or_left, or_right, or_from, or_cases, and_from, and_parts, both_ways, cases_Bool, cases_eq, cond-true, cond-false, cond_both, ltb-true}
+use Rattle.std.proofs.Common.{◌≡◌, ℕ, zero, suc, ◌+◌, ◌*◌, ◌<◌, ◌≤◌, Bool, true, false, cond, ◌||◌, eqb, ltb, ◌≢◌, List, [], ◌∷◌, ◌++◌, length, get_or, take, drop, Some, None, Option, Vec, vec_items, sym, refl, ap, ◌∙◌, inl, inr, arith}
+use Rattle.std.specs.Simd.{first_chunks}
+use Rattle.std.proofs.lemmas.List.{take_more, length_push, drop-drop}
+use Rattle.std.proofs.lemmas.Bool.{false≢true, ne_eqb, eq-eqb, or_left, or_right, or_from, or_cases, both_ways, cases_Bool, cases_eq, cond-true, cond-false, cond_both, ltb-true}
+use Rattle.std.specs.declared.alloc.Global.{Global}
 use Rattle.device.specs.Images.{blocks, row, put, of_row, EachRow}
-use Rattle.device.proofs.Rows.{row_before, row-full, row-byte, each_again, each-as}
+use Rattle.device.proofs.Rows.{row_before, row-full, each_again, each-as}
 use Rattle.device.proofs.Meaning.{of-row-here}
 use Rattle.simulated.specs.Rows.{is_loose, synced}
-use Rattle.simulated.specs.Lists.{names, Lists, Noted, synced_if}
+use Rattle.simulated.specs.Lists.{names, Names, Lists, Short, Longer, Noted, synced_if}
 use Rattle.simulated.specs.RowLaws.{synced-firm, synced-same}
 
 pub names-last : (xs : List ℕ) (y : ℕ) → names (xs ++ (y ∷ [])) y ≡ true
@@ -25,39 +27,43 @@ pub names-other : (xs : List ℕ) (y k : ℕ) → k ≢ y → names (xs ++ (y �
 names-other [] y k away = or_from (eqb y k) false (ne_eqb y k (λ e. away (sym e))) refl
 names-other (x ∷ xs) y k away = ap (λ (t : Bool). eqb x k || t) (names-other xs y k away)
 
--- a block that was added to a complete list, if there was memory for it
-pub noted-added : (old new : List ℕ) (complete added loose : Bool) (b : ℕ) → complete ≡ true → loose ≡ false → new ≡ cond added (old ++ (b ∷ [])) old → Noted old new complete added loose b
-noted-added old new complete added loose b was firm e = record {
-  was = λ _. was;
-  kept = λ k h. rw e (cond_both added _ _ (λ zs. names zs k ≡ true) (λ _. names_more old b k h) (λ _. h));
-  here = λ t. ap (λ (zs : List ℕ). names zs b) (e ∙ cond-true added _ _ t) ∙ names-last old b;
-  short = rw (e, firm) (cond_both added _ _ (λ zs. length zs ≤ length old + 1) (λ _. omega (arith, length_push old b)) (λ _. omega arith));
+-- a block that was not loose, at the end of a list
+pub longer-added : (old new : List ℕ) (loose : Bool) (b : ℕ) → loose ≡ false → new ≡ old ++ (b ∷ []) → Longer old new loose b
+longer-added old new loose b firm e = record {
+  kept = λ k h. rw e (names_more old b k h);
+  here = rw e (names-last old b);
+  short = rw (e, firm) (omega (arith, length_push old b));
 }
 
--- what a complete list says of a block that is loose
-pub lists_named : (list image : List ℕ) (b : ℕ) → Lists true list image → b < blocks 514 image → is_loose (row 514 image b) ≡ true → names list b ≡ true
+-- what a list says of a block that is loose
+pub lists_named : (list image : List ℕ) (b : ℕ) → Names list image → b < blocks 514 image → is_loose (row 514 image b) ≡ true → names list b ≡ true
 lists_named list image b h l e = h b (of-row-here 514 is_loose false image b l ∙ e)
 
--- and how it is known to be complete
-pub lists-from : (list image : List ℕ) → ((b : ℕ) → b < blocks 514 image → is_loose (row 514 image b) ≡ true → names list b ≡ true) → Lists true list image
+-- and how it is known to say it of all
+pub lists-from : (list image : List ℕ) → ((b : ℕ) → b < blocks 514 image → is_loose (row 514 image b) ≡ true → names list b ≡ true) → Names list image
 lists-from list image h b e =
     elim (cases_Bool (ltb b (blocks 514 image))) [
       | inl t ↦ h b (ltb-true b (blocks 514 image) t) (sym (cond-true (ltb b (blocks 514 image)) _ _ t) ∙ e)
       | inr f ↦ absurd (false≢true (sym (cond-false (ltb b (blocks 514 image)) _ _ f) ∙ e))
     ]
 
--- the loose byte of block b, in the image
-pub loose-byte : (image : List ℕ) (b : ℕ) → is_loose (row 514 image b) ≡ not (eqb (get_or image (514 * b + 257) 0) 0)
-loose-byte image b = ap (λ (x : ℕ). not (eqb x 0)) (row-byte 514 image b 257 (lit< tt))
-
 -- a block that was noted may be loose then
-pub lists-noted : (list list' image image' : List ℕ) (complete complete' loose : Bool) (b : ℕ) → Noted list list' complete complete' loose b → ((k : ℕ) → k ≢ b → of_row 514 is_loose false image' k ≡ of_row 514 is_loose false image k) → Lists complete list image → Lists complete' list' image'
-lists-noted list list' image image' complete complete' loose b noted others h k e =
-    let p = and_parts complete' (of_row 514 is_loose false image' k) e in
+pub lists-noted : (list list' : Option (Vec ℕ Global)) (image image' : List ℕ) (loose : Bool) (b : ℕ) → Noted list list' loose b → ((k : ℕ) → k ≢ b → of_row 514 is_loose false image' k ≡ of_row 514 is_loose false image k) → Lists list image → Lists list' image'
+lists-noted list None image image' loose b noted others h = tt
+lists-noted None (Some v') image image' loose b noted others h = absurd noted
+lists-noted (Some v) (Some v') image image' loose b noted others h =
+    λ k e.
     elim (cases_eq k b) [
-      | inl same ↦ ap (names list') same ∙ noted.here p.0
-      | inr away ↦ noted.kept k (h k (and_from complete (of_row 514 is_loose false image k) (noted.was p.0) (sym (others k away) ∙ p.1)))
+      | inl same ↦ ap (names (vec_items v')) same ∙ noted.here
+      | inr away ↦ noted.kept k (h k (sym (others k away) ∙ e))
     ]
+
+-- a list that grows only with a block that was not loose
+pub short-noted : (list list' : Option (Vec ℕ Global)) (count count' : ℕ) (loose : Bool) (b : ℕ) → Noted list list' loose b → Short list count → count' ≡ cond loose count (count + 1) → Short list' count'
+short-noted list None count count' loose b noted h e = tt
+short-noted None (Some v') count count' loose b noted h e = absurd noted
+short-noted (Some v) (Some v') count count' true b noted h e = omega (arith, noted.short)
+short-noted (Some v) (Some v') count count' false b noted h e = omega (arith, noted.short)
 
 -- a sync of the next block of the list: i is its place there
 module _ (size : ℕ) (xs ys list : List ℕ) (i : ℕ) (within : i < length list) (h : 514 * size ≤ length xs) (s : EachRow 514 (synced_if (take i list)) size xs ys) where
@@ -81,8 +87,8 @@ module _ (size : ℕ) (xs ys list : List ℕ) (i : ℕ) (within : i < length lis
   pub listed-past : size ≤ get_or list i 0 → EachRow 514 (synced_if (take (i + 1) list)) size xs ys
   listed-past le = each-as 514 (synced_if (take i list)) (synced_if (take (i + 1) list)) size xs ys s (λ k l. also k (λ e. omega arith))
 
--- what a complete list does not name needs no sync
-pub listed-all : (size : ℕ) (xs ys list : List ℕ) → size ≡ blocks 514 xs → Lists true list xs → EachRow 514 (synced_if list) size xs ys → EachRow 514 synced size xs ys
+-- what a list of all loose blocks does not name needs no sync
+pub listed-all : (size : ℕ) (xs ys list : List ℕ) → size ≡ blocks 514 xs → Names list xs → EachRow 514 (synced_if list) size xs ys → EachRow 514 synced size xs ys
 listed-all size xs ys list e h s =
     each-as 514 (synced_if list) synced size xs ys s
     (λ b l.
@@ -96,3 +102,11 @@ listed-all size xs ys list e h s =
             | inr firm ↦ sym (synced-same b r firm)
           ]
     ])
+
+-- a row of the image, among the first n rows as arrays
+pub chunk-row : (n : ℕ) (xs : List ℕ) (b : ℕ) (d : List ℕ) → b < n → get_or (first_chunks 514 n xs) b d ≡ row 514 xs b
+chunk-row zero xs b d h = absurd (omega arith)
+chunk-row (suc n) xs zero d h = refl
+chunk-row (suc n) xs (suc b) d h =
+    chunk-row n (drop 514 xs) b d (omega arith)
+    ∙ ap (take 514) (drop-drop (514 * b) 514 xs) ∙ ap (λ (k : ℕ). take 514 (drop k xs)) (omega arith)

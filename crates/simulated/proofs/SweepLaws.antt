@@ -1,12 +1,16 @@
 -- What a sync and a restart of an image mean.
-use Rattle.std.proofs.Common.{◌≡◌, ℕ, zero, suc, ◌+◌, ◌*◌, ◌<◌, ◌≤◌, Bool, true, false, cond, List, length, get_or, None, sym, refl, ap, ◌∙◌, inl, inr, le_refl, add-one, arith, lit<}
-use Rattle.std.proofs.lemmas.Bool.{false≢true, cases_Bool, cases_eq, cases_lt, cond_both, cond-true, cond-false}
+use Rattle.std.proofs.Common.{◌≡◌, ℕ, zero, suc, ◌+◌, ◌*◌, ◌<◌, ◌≤◌, Bool, true, false, cond, List, [], length, get_or, drop, Some, None, Option, IsSomeAnd, MatchOption, Vec, Iter, Bor, vec_items, sym, refl, ap, ◌∙◌, inl, inr, add-one, arith, lit<}
+use Rattle.std.proofs.lemmas.Bool.{false≢true, cases_Bool, cases_eq, cond_both, cond-true, cond-false}
+use Rattle.std.specs.declared.alloc.Global.{Global}
+use Rattle.std.specs.Option.{option_copied, unwrap_or}
+use Rattle.std.specs.Slice.Iter.{iter_steps, iter_rest}
+use Rattle.std.proofs.lemmas.List.{drop_all, drop-drop, get_or_past}
 use Rattle.device.specs.Bytes.{Bytes}
 use Rattle.device.specs.Images.{blocks, row, put, of_row, EachRow}
 use Rattle.device.proofs.Rows.{room, row-full, row_same, row_other, each-bytes}
 use Rattle.device.proofs.Meaning.{of-row-here, of-row-same, of-row-none}
 use Rattle.simulated.specs.Rows.{is_loose, shown, synced, loose_below, restarted}
-use Rattle.simulated.specs.Lists.{Lists}
+use Rattle.simulated.specs.Lists.{Lists, Short}
 use Rattle.simulated.specs.RowLaws.{keeping-full, keeping-firm, synced-firm, synced-shown, synced-bytes, revived-any, revived-bytes}
 
 pub loose-more : (xs : List ℕ) (b : ℕ) → loose_below xs (b + 1) ≡ cond (is_loose (row 514 xs b)) (loose_below xs b + 1) (loose_below xs b)
@@ -25,21 +29,6 @@ module _ (xs rem : List ℕ) (b : ℕ) (r : List ℕ) (full : length r ≡ 514) 
 
   restarted-bytes : Bytes rem → Bytes r → Bytes (restarted xs rem b r)
   restarted-bytes hm hr = cond_both (is_loose r) _ _ Bytes (λ _. revived-bytes (get_or rem (loose_below xs b) 0) r (hm (loose_below xs b)) hr) (λ _. hr)
-
-pub loose-mono : (xs : List ℕ) (a n : ℕ) → a ≤ n → loose_below xs a ≤ loose_below xs n
-loose-mono xs a zero h = let e : a ≡ 0 = omega arith in rw e (le_refl 0)
-loose-mono xs a (suc n) h =
-    elim (cases_lt n a) [
-      | inl l ↦ let e : a ≡ suc n = omega arith in rw e (le_refl (loose_below xs (suc n)))
-      | inr g ↦
-          let before = loose-mono xs a n g in
-          cond_both (is_loose (row 514 xs n)) _ _ (λ m. loose_below xs a ≤ m) (λ _. omega arith) (λ _. omega arith)
-    ]
-
--- a list that grows only with a block that was not loose
-pub short-noted : (n n' count count' : ℕ) (t : Bool) → n ≤ count → n' ≤ cond t n (n + 1) → count' ≡ cond t count (count + 1) → n' ≤ count'
-short-noted n n' count count' true a b c = omega arith
-short-noted n n' count count' false a b c = omega arith
 
 -- a write that makes a block loose: one more is loose, if the block was not
 module _ (image : List ℕ) (b : ℕ) (r : List ℕ) (in-range : 514 * b + 514 ≤ length image) (full : length r ≡ 514) (loose : is_loose r ≡ true) where
@@ -77,8 +66,13 @@ module _ (image : List ℕ) (b : ℕ) (r : List ℕ) (in-range : 514 * b + 514 �
       ]
 
 -- a list of an image with no loose block may be empty
-pub lists-none : (list image : List ℕ) → ((k : ℕ) → of_row 514 is_loose false image k ≡ false) → Lists true list image
-lists-none list image h b e = absurd (false≢true (sym (h b) ∙ e))
+pub lists-none : (list : Option (Vec ℕ Global)) (image : List ℕ) → ((k : ℕ) → of_row 514 is_loose false image k ≡ false) → Lists list image
+lists-none None image h = tt
+lists-none (Some v) image h = λ b e. absurd (false≢true (sym (h b) ∙ e))
+
+pub short-none : (list : Option (Vec ℕ Global)) (n : ℕ) → IsSomeAnd list (λ v. vec_items v ≡ []) → Short list n
+short-none None n h = tt
+short-none (Some v) n h = omega (arith, ap length h)
 
 module _ (xs ys : List ℕ) (s : EachRow 514 synced (blocks 514 xs) xs ys) where
   full_at : (b : ℕ) → b < blocks 514 xs → length (row 514 xs b) ≡ 514
@@ -109,3 +103,24 @@ module _ (xs ys rem : List ℕ) (s : EachRow 514 (restarted xs rem) (blocks 514 
 
   pub restart-bytes : Bytes rem → Bytes xs → Bytes ys
   restart-bytes hm hx = each-bytes 514 (restarted xs rem) (blocks 514 xs) xs ys (lit< tt) s hx (λ b l hr. restarted-bytes xs rem b (row 514 xs b) (whole-at b l) hm hr)
+
+-- the next byte of the remains, or 0 past their end
+pub next-byte : (s t : Iter ℕ) (r : Option (Bor ℕ)) → iter_steps s r t → unwrap_or (option_copied r) 0 ≡ get_or (iter_rest s) 0 0
+next-byte s t None h = sym (get_or_past (iter_rest s) 0 0 (omega (arith, h.0)))
+next-byte s t (Some x) h = sym (ap (λ (zs : List ℕ). get_or zs 0 0) h)
+
+pub next-rest : (s t : Iter ℕ) (r : Option (Bor ℕ)) → iter_steps s r t → iter_rest t ≡ drop 1 (iter_rest s)
+next-rest s t None h = ap iter_rest h.1 ∙ drop_all 0 (iter_rest s) (omega (arith, h.0)) ∙ sym (drop_all 1 (iter_rest s) (omega (arith, h.0)))
+next-rest s t (Some x) h = sym (ap (drop 1) h)
+
+-- what is left of the remains at the next block
+pub taken-more : (xs rem : List ℕ) (b : ℕ) → cond (is_loose (row 514 xs b)) (drop 1 (drop (loose_below xs b) rem)) (drop (loose_below xs b) rem) ≡ drop (loose_below xs (b + 1)) rem
+taken-more xs rem b =
+    cond_both (is_loose (row 514 xs b)) _ _ (λ n. n ≡ drop (loose_below xs (b + 1)) rem)
+    (λ t. drop-drop 1 (loose_below xs b) rem ∙ ap (λ (n : ℕ). drop n rem) (sym (loose-more xs b ∙ cond-true (is_loose (row 514 xs b)) _ _ t)))
+    (λ f. ap (λ (n : ℕ). drop n rem) (sym (loose-more xs b ∙ cond-false (is_loose (row 514 xs b)) _ _ f)))
+
+-- whether the row of a block was loose, as it was seen
+pub seen-loose : (seen : Option (Bor (List ℕ))) (r : List ℕ) (t : Bool) (size b : ℕ) → MatchOption seen (t ≡ false) (λ x. t ≡ is_loose x.now) → MatchOption seen (size ≤ b) (λ x. x.now ≡ r) → b < size → is_loose r ≡ t
+seen-loose None r t size b h is l = absurd (omega arith)
+seen-loose (Some x) r t size b h is l = ap is_loose (sym is) ∙ sym h

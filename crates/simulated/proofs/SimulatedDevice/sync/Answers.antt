@@ -1,46 +1,40 @@
-use Rattle.std.proofs.Common.{◌≡◌, ℕ, ◌≤◌, List, length, sym, refl, ap, ◌∙◌, subst, arith, rules}
+use Rattle.std.proofs.Common.{ℕ, List, vec_items, sym, ap, ◌∙◌, subst}
 use Rattle.std.specs.Vec.{with_items}
-use Rattle.std.proofs.lemmas.List.{with_items_is}
 use Rattle.device.specs.Images.{blocks, EachRow}
-use Rattle.device.proofs.Rows.{same_blocks}
-use Rattle.simulated.specs.Rows.{loose_below, synced}
-use Rattle.simulated.proofs.SweepLaws.{lists-none, sync-holds, sync-firm, sync-bytes}
+use Rattle.device.proofs.Rows.{same_blocks, lent-each}
+use Rattle.simulated.specs.Rows.{synced}
+use Rattle.simulated.proofs.SweepLaws.{lists-none, short-none, sync-holds, sync-firm, sync-bytes}
 use Rattle.simulated.proofs.SimulatedDevice.sync.Goals as goal
 
-pub invariant_of-self : goal.invariant_of-self
-invariant_of-self c =
-    let d = c.args.self.now in
-    let v = d.image in
-    let xs = v.items in
-    let new = c.settle.new.image in
-    let s : EachRow 514 synced (blocks 514 xs) xs new =
-    subst (λ (n : ℕ). EachRow 514 synced n xs new) d.sized (subst (λ (zs : List ℕ). EachRow 514 synced d.size zs new) c.as_mut_slice-image.ensures.value c.settle.ensures) in
-    let done : (with_items v new).items ≡ new = with_items_is v new (s.len ∙ sym v.ok.0) in
-    let short : length c.clear.new.self.items ≤ loose_below (with_items v new).items d.size = omega (arith, ap length c.clear.ensures.items) in
+pub invariant_of-self-3 : goal.invariant_of-self-3
+invariant_of-self-3 c =
+    let d = c.spend.new.self in
+    let s = lent-each 514 (λ _. synced) d.image _ c.sync.new.image d.size d.sized c.as_mut_slice-image.ensures.value c.sync.ensures in
+    (d.sized ∙ sym (same_blocks 514 d.image.items _ s.len), (d.calls, (sync-bytes d.image.items _ s d.bytes, tt)))
+
+pub invariant_of-self-4 : goal.invariant_of-self-4
+invariant_of-self-4 c =
+    let d = c.spend.new.self in
+    let s = lent-each 514 (λ _. synced) d.image _ c.sync.new.image d.size d.sized c.as_mut_slice-image.ensures.value c.sync.ensures in
     record {
-      sized = rw done (d.sized ∙ sym (same_blocks 514 xs new s.len));
-      calls = omega (arith, d.calls);
-      bytes = rw done (sync-bytes xs new s d.bytes);
-      listed = rw done (lists-none c.clear.new.self.items new (sync-firm xs new s));
-      short = short;
+      named = lists-none c.clear.new.self.list _ (sync-firm d.image.items _ s);
+      short = short-none c.clear.new.self.list _ c.clear.ensures;
     }
 
 pub returns : goal.returns
 returns c =
-    let d = c.args.self.now in
-    let v = d.image in
-    let xs = v.items in
-    let new = c.settle.new.image in
-    let s : EachRow 514 synced (blocks 514 xs) xs new =
-    subst (λ (n : ℕ). EachRow 514 synced n xs new) d.sized (subst (λ (zs : List ℕ). EachRow 514 synced d.size zs new) c.as_mut_slice-image.ensures.value c.settle.ensures) in
-    let done : (with_items v new).items ≡ new = with_items_is v new (s.len ∙ sym v.ok.0) in
+    let d = c.spend.new.self in
+    let xs = c.args.self.now.rows.image.items in
+    let ys = (with_items d.image c.sync.new.image).items in
+    let s = subst (λ (zs : List ℕ). EachRow 514 synced (blocks 514 zs) zs ys) (ap vec_items c.in_ok-spend.ensures.image)
+    (lent-each 514 (λ _. synced) d.image _ c.sync.new.image d.size d.sized c.as_mut_slice-image.ensures.value c.sync.ensures) in
     record {
       call = record {
-        answer = search rules;
-        left = refl;
-        size = rw done (same_blocks 514 xs new s.len);
-        holds = λ k. rw done (sync-holds xs new s k);
-        loose = λ k. rw done (sync-firm xs new s k);
+        answer = c.in_ok-spend.ensures.answer;
+        left = c.in_ok-spend.ensures.left;
+        size = same_blocks 514 xs ys s.len;
+        holds = sync-holds xs ys s;
+        loose = sync-firm xs ys s;
       };
-      image = rw done s;
+      image = s;
     }

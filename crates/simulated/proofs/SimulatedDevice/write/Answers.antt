@@ -1,24 +1,33 @@
-use Rattle.std.proofs.Common.{length}
-use Rattle.device.specs.Images.{blocks, row}
-use Rattle.device.proofs.Answered.{passed, admitted-as}
+use Rattle.std.proofs.Common.{◌≡◌, ◌+◌, ℕ, List, Bool, cond, sym, ap, ◌∙◌, arith}
+use Rattle.device.specs.Images.{row, put}
+use Rattle.device.proofs.Answered.{write-passed}
 use Rattle.device.proofs.Rows.{room, row-full}
-use Rattle.device.proofs.Meaning.{write-row}
-use Rattle.simulated.specs.Rows.{is_loose, shown, written}
-use Rattle.simulated.specs.RowLaws.{written-full, written-shown}
+use Rattle.simulated.specs.Rows.{is_loose, loose_below, written}
+use Rattle.simulated.specs.RowLaws.{written-full, written-loose}
+use Rattle.simulated.proofs.ListLaws.{lists-noted, short-noted}
+use Rattle.simulated.proofs.SweepLaws.{loose-put, seen-loose}
 use Rattle.simulated.proofs.SimulatedDevice.write.Goals as goal
 
-pub returns : goal.returns
-returns c =
+pub invariant_of-self-2 : goal.invariant_of-self-2
+invariant_of-self-2 c =
     let d = c.args.self.now in
-    let xs = d.image.items in
+    let xs = d.rows.image.items in
+    let ys = c.write.new.self.image.items in
     let b = c.args.block in
     let bytes = c.args.bytes.now in
-    let ok = admitted-as d.size (blocks 514 xs) d.left b (length bytes) d.sized c.in_ok-admit.ensures in
-    let here = passed (blocks 514 xs) d.left b (length bytes) ok in
+    let call = c.in_ok-write.ensures.call in
+    let here = write-passed call in
     let wide = row-full 514 xs b (room 514 xs b here.in-range) in
     let r = written (row 514 xs b) bytes in
+    let n = c.write.new.self.size in
+    let size : n ≡ d.rows.size = c.write.new.self.sized ∙ call.elsewhere.size ∙ sym d.rows.sized in
+    let loose : is_loose (row 514 xs b) ≡ c.is_some_and-loose.result =
+    seen-loose c.row.result (row 514 xs b) c.is_some_and-loose.result d.rows.size b c.is_some_and-loose.ensures c.row.ensures.value (omega (arith, here.in-range, d.rows.sized)) in
+    let count : loose_below ys n ≡ cond c.is_some_and-loose.result (loose_below xs d.rows.size) (loose_below xs d.rows.size + 1) =
+    ap (λ (zs : List ℕ). loose_below zs n) c.in_ok-write.ensures.image ∙ ap (loose_below (put 514 xs b r)) size
+    ∙ loose-put xs b r (room 514 xs b here.in-range) (written-full (row 514 xs b) bytes wide here.whole) (written-loose (row 514 xs b) bytes wide here.whole) d.rows.size (omega (arith, here.in-range, d.rows.sized))
+    ∙ ap (λ (t : Bool). cond t (loose_below xs d.rows.size) (loose_below xs d.rows.size + 1)) loose in
     record {
-      call = rw (c.put_newer.ensures.image, c.put_newer.ensures.left)
-          (write-row 514 shown is_loose xs d.left b bytes r ok (written-full (row 514 xs b) bytes wide here.whole) (written-shown (row 514 xs b) bytes wide here.whole));
-      image = c.put_newer.ensures.image;
+      named = lists-noted d.loose.list c.note.new.self.list xs ys c.is_some_and-loose.result b c.note.ensures call.elsewhere.loose d.named;
+      short = short-noted d.loose.list c.note.new.self.list (loose_below xs d.rows.size) (loose_below ys n) c.is_some_and-loose.result b c.note.ensures d.short count;
     }

@@ -1,49 +1,39 @@
-use Rattle.std.proofs.Common.{◌≡◌, ℕ, ◌≤◌, List, length, sym, ap, ◌∙◌, subst, arith, rules}
-use Rattle.std.specs.Vec.{with_items}
-use Rattle.std.proofs.lemmas.List.{with_items_is}
-use Rattle.device.specs.Images.{blocks, EachRow}
-use Rattle.device.proofs.Rows.{same_blocks}
-use Rattle.simulated.specs.Rows.{loose_below, restarted}
-use Rattle.simulated.proofs.SweepLaws.{lists-none, restart-holds, restart-firm, restart-bytes}
+use Rattle.std.proofs.Common.{sym, ◌∙◌, arith, rules}
+use Rattle.device.proofs.Rows.{same_blocks, lent-each}
+use Rattle.simulated.specs.Rows.{restarted}
+use Rattle.simulated.proofs.SweepLaws.{lists-none, short-none, restart-holds, restart-firm, restart-bytes}
 use Rattle.simulated.proofs.SimulatedPoweredDevice.restart.Goals as goal
 
-pub invariant_of-self : goal.invariant_of-self
-invariant_of-self c =
-    let d = c.args.self.now in
-    let v = d.image in
-    let xs = v.items in
+pub invariant_of-self-3 : goal.invariant_of-self-3
+invariant_of-self-3 c =
+    let d = c.args.self.now.rows in
+    let xs = d.image.items in
     let rem = c.args.remains.now in
-    let new = c.restart_all.new.image in
-    let s : EachRow 514 (restarted xs rem) (blocks 514 xs) xs new =
-    subst (λ (n : ℕ). EachRow 514 (restarted xs rem) n xs new) d.sized
-    (subst (λ (zs : List ℕ). EachRow 514 (restarted zs rem) d.size zs new) c.as_mut_slice-image.ensures.value c.restart_all.ensures) in
-    let done : (with_items v new).items ≡ new = with_items_is v new (s.len ∙ sym v.ok.0) in
-    let short : length c.clear.new.self.items ≤ loose_below (with_items v new).items d.size = omega (arith, ap length c.clear.ensures.items) in
+    let s = lent-each 514 (λ zs. restarted zs rem) d.image _ c.restart_all.new.image d.size d.sized c.as_mut_slice-image.ensures.value c.restart_all.ensures in
+    (d.sized ∙ sym (same_blocks 514 xs _ s.len), (omega arith, (restart-bytes xs _ rem s (λ k. omega (arith, c.type_inv.remains k)) d.bytes, tt)))
+
+pub invariant_of-self-4 : goal.invariant_of-self-4
+invariant_of-self-4 c =
+    let d = c.args.self.now.rows in
+    let rem = c.args.remains.now in
+    let s = lent-each 514 (λ zs. restarted zs rem) d.image _ c.restart_all.new.image d.size d.sized c.as_mut_slice-image.ensures.value c.restart_all.ensures in
     record {
-      sized = rw done (d.sized ∙ sym (same_blocks 514 xs new s.len));
-      calls = omega arith;
-      bytes = rw done (restart-bytes xs new rem s (λ k. omega (arith, c.type_inv.remains k)) d.bytes);
-      listed = rw done (lists-none c.clear.new.self.items new (restart-firm xs new rem s));
-      short = short;
+      named = lists-none c.clear.new.self.list _ (restart-firm d.image.items _ rem s);
+      short = short-none c.clear.new.self.list _ c.clear.ensures;
     }
 
 pub returns : goal.returns
 returns c =
-    let d = c.args.self.now in
-    let v = d.image in
-    let xs = v.items in
+    let d = c.args.self.now.rows in
+    let xs = d.image.items in
     let rem = c.args.remains.now in
-    let new = c.restart_all.new.image in
-    let s : EachRow 514 (restarted xs rem) (blocks 514 xs) xs new =
-    subst (λ (n : ℕ). EachRow 514 (restarted xs rem) n xs new) d.sized
-    (subst (λ (zs : List ℕ). EachRow 514 (restarted zs rem) d.size zs new) c.as_mut_slice-image.ensures.value c.restart_all.ensures) in
-    let done : (with_items v new).items ≡ new = with_items_is v new (s.len ∙ sym v.ok.0) in
+    let s = lent-each 514 (λ zs. restarted zs rem) d.image _ c.restart_all.new.image d.size d.sized c.as_mut_slice-image.ensures.value c.restart_all.ensures in
     record {
       call = record {
-        size = rw done (same_blocks 514 xs new s.len);
-        holds = λ k firm. rw done (restart-holds xs new rem s k firm);
-        loose = λ k. rw done (restart-firm xs new rem s k);
+        size = same_blocks 514 xs _ s.len;
+        holds = restart-holds xs _ rem s;
+        loose = restart-firm xs _ rem s;
         left = search rules;
       };
-      kind = rw done s;
+      kind = s;
     }

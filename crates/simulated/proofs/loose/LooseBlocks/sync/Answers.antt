@@ -1,0 +1,14 @@
+use Rattle.std.proofs.Common.{ℕ, List, subst}
+use Rattle.device.specs.Images.{EachRow}
+use Rattle.simulated.specs.Lists.{Names, synced_if}
+use Rattle.simulated.proofs.ListLaws.{listed-all}
+use Rattle.simulated.proofs.loose.LooseBlocks.sync.Goals as goal
+
+pub returns-in-Some : goal.returns-in-Some
+returns-in-Some c =
+    let xs = c.args.image.now in
+    let ys = c.sync_listed.new.image in
+    let list = c.in-Some.list.items in
+    let named : Names list xs = rw c.in-Some.is at c.requires.listed in
+    listed-all c.args.size xs ys list c.requires.sized named
+    (subst (λ (zs : List ℕ). EachRow 514 (synced_if zs) c.args.size xs ys) c.as_slice.ensures.value c.sync_listed.ensures)

@@ -1,5 +1,0 @@
-use Rattle.simulated.specs.RowLaws.{written_is}
-use Rattle.simulated.proofs.rows.renew.Goals as goal
-
-pub returns : goal.returns
-returns c = rw c.copy_from_slice.ensures.after (written_is c.args.row.now c.args.bytes.now c.requires.row_len c.requires.bytes_len)
