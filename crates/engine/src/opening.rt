@@ -24,9 +24,9 @@ pub struct Recovered {
 // Whether the mark of an entry is good: one that is unreadable is not.
 fn read_mark<D: Device>(device: &mut D, entry: u32) -> Result<bool, Fault>
     requires small { entry < 32767 }
-    requires within { 2 + 2 * entry < (D.medium device.old).size }
-    ensures answer { result ≡ mark_answer (D.medium device.old) entry }
-    ensures after { D.medium device.new ≡ drained 1 (D.medium device.old) }
+    requires within { 2 + 2 * entry < (D.Device.medium device.old).size }
+    ensures answer { result ≡ mark_answer (D.Device.medium device.old) entry }
+    ensures after { D.Device.medium device.new ≡ drained 1 (D.Device.medium device.old) }
 {
     let mut block = [0; BLOCK];
     match device.read(2 + 2 * entry, &mut block) {
@@ -41,9 +41,9 @@ fn read_mark<D: Device>(device: &mut D, entry: u32) -> Result<bool, Fault>
 // The instruction that the record of an entry says.
 fn read_entry<D: Device>(device: &mut D, entry: u32) -> Result<Instruction, Fault>
     requires small { entry < 32767 }
-    requires within { 2 + 2 * entry < (D.medium device.old).size }
-    ensures answer { result ≡ record_answer (D.medium device.old) entry }
-    ensures after { D.medium device.new ≡ drained 1 (D.medium device.old) }
+    requires within { 2 + 2 * entry < (D.Device.medium device.old).size }
+    ensures answer { result ≡ record_answer (D.Device.medium device.old) entry }
+    ensures after { D.Device.medium device.new ≡ drained 1 (D.Device.medium device.old) }
 {
     let mut block = [0; BLOCK];
     if let Err(fault) = device.read(1 + 2 * entry, &mut block) {
@@ -62,9 +62,9 @@ fn replay_entry<D: Device, R: Book, C: Book>(
     entry: u32,
 ) -> Result<Option<Instruction>, Fault>
     requires small { entry < 32767 }
-    requires within { 2 + 2 * entry < (D.medium device.old).size }
-    ensures answer { result ≡ entry_answer (rulebook R.fixed C.fixed) (D.medium device.old) (standing_of ledger.old) entry }
-    ensures after { D.medium device.new ≡ drained (spent_by result) (D.medium device.old) }
+    requires within { 2 + 2 * entry < (D.Device.medium device.old).size }
+    ensures answer { result ≡ entry_answer (rulebook R.fixed C.fixed) (D.Device.medium device.old) (standing_of ledger.old) entry }
+    ensures after { D.Device.medium device.new ≡ drained (spent_by result) (D.Device.medium device.old) }
     ensures books { standing_of ledger.new ≡ leads_to (standing_of ledger.old) result }
 {
     if !read_mark(device, entry)? {
@@ -84,10 +84,10 @@ fn replay<D: Device, R: Book, C: Book>(
     pairs: u32,
 ) -> Result<Recovered, Fault>
     requires few { pairs ≤ 32767 }
-    requires within { 1 + 2 * pairs ≤ (D.medium device.old).size }
-    ensures answer { result ≡ (scan (rulebook R.fixed C.fixed) pairs (D.medium device.old) 0 (standing_of ledger.old) None).outcome }
-    ensures after { D.medium device.new ≡ with_calls (scan (rulebook R.fixed C.fixed) pairs (D.medium device.old) 0 (standing_of ledger.old) None).left (D.medium device.old) }
-    ensures books { standing_of ledger.new ≡ (scan (rulebook R.fixed C.fixed) pairs (D.medium device.old) 0 (standing_of ledger.old) None).standing }
+    requires within { 1 + 2 * pairs ≤ (D.Device.medium device.old).size }
+    ensures answer { result ≡ (scan (rulebook R.fixed C.fixed) pairs (D.Device.medium device.old) 0 (standing_of ledger.old) None).outcome }
+    ensures after { D.Device.medium device.new ≡ with_calls (scan (rulebook R.fixed C.fixed) pairs (D.Device.medium device.old) 0 (standing_of ledger.old) None).left (D.Device.medium device.old) }
+    ensures books { standing_of ledger.new ≡ (scan (rulebook R.fixed C.fixed) pairs (D.Device.medium device.old) 0 (standing_of ledger.old) None).standing }
     ensures within { IfOk result (λ found. found.count ≤ pairs) }
 {
     let mut done: u32 = 0;
@@ -108,9 +108,9 @@ fn replay<D: Device, R: Book, C: Book>(
 
 // The number of pairs of the journal on a device, where its header is one for these kinds of books.
 fn read_header<D: Device>(device: &mut D, register: u8, cash: u8) -> Result<u32, Fault>
-    ensures answer { result ≡ header_answer register cash (D.medium device.old) }
-    ensures after { D.medium device.new ≡ after_header (D.medium device.old) }
-    ensures fits { IfOk result (λ pairs. Fits pairs (D.medium device.new)) }
+    ensures answer { result ≡ header_answer register cash (D.Device.medium device.old) }
+    ensures after { D.Device.medium device.new ≡ after_header (D.Device.medium device.old) }
+    ensures fits { IfOk result (λ pairs. Fits pairs (D.Device.medium device.new)) }
 {
     let mut block = [0; BLOCK];
     device.read(0, &mut block)?;
@@ -130,7 +130,7 @@ fn read_header<D: Device>(device: &mut D, register: u8, cash: u8) -> Result<u32,
 impl<D: Device, R: Book, C: Book> Engine<D, R, C> {
     // Moves the device and the books in, and always gives an engine, which keeps the opening's answer.
     pub fn open(device: D, register: R, cash: C) -> Self
-        ensures { view D.medium result ≡ opened (rulebook R.fixed C.fixed) (D.medium device) }
+        ensures { view D.Device.medium result ≡ opened (rulebook R.fixed C.fixed) (D.Device.medium device) }
     {
         let mut device = device;
         let register_kind = register.kind();
@@ -144,9 +144,9 @@ impl<D: Device, R: Book, C: Book> Engine<D, R, C> {
 
     // The engine of a journal with so many pairs.
     fn recovered(device: D, ledger: Ledger<R, C>, pairs: u32) -> Self
-        requires fits { Fits pairs (D.medium device) }
+        requires fits { Fits pairs (D.Device.medium device) }
         requires empty { standing_of ledger ≡ empty }
-        ensures { view D.medium result ≡ scanned_on pairs (D.medium device) (scan (rulebook R.fixed C.fixed) pairs (D.medium device) 0 empty None) }
+        ensures { view D.Device.medium result ≡ scanned_on pairs (D.Device.medium device) (scan (rulebook R.fixed C.fixed) pairs (D.Device.medium device) 0 empty None) }
     {
         let mut device = device;
         let mut ledger = ledger;
@@ -167,7 +167,7 @@ impl<D: Device, R: Book, C: Book> Engine<D, R, C> {
 
     // Clears books and trades again.
     fn refused(device: D, ledger: Ledger<R, C>, fault: Fault) -> Self
-        ensures { view D.medium result ≡ refused_as fault (D.medium device) }
+        ensures { view D.Device.medium result ≡ refused_as fault (D.Device.medium device) }
     {
         let mut ledger = ledger;
         ledger.clear();

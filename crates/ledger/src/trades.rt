@@ -49,6 +49,7 @@ impl Trades {
         ensures answer { result ≡ put_answer number }
         ensures after { self.new.rows ≡ put_in self.old.rows number trade }
     {
+        // By index: after a `get_mut` a proof knows how many rows there are, and not what they hold.
         if number as usize >= TRADES {
             return Err(Refusal::NoTrade);
         }
