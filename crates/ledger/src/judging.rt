@@ -7,35 +7,38 @@ ghost use Rattle.ledger.specs.View.{rulebook, standing_in, IsJudged};
 
 use crate::parts::Parts;
 use answers::{Fault, Refusal};
-use book::Book;
+use book::{ACCOUNTS, Book};
 use instruction::{Instruction, Kind};
 use rulebook::about;
 
-// The accounts of each book.
-const ACCOUNTS: u16 = 64;
-
-// A field other than the kind and the trade is not 0.
-fn past_trade(x: &Instruction) -> bool
-    ensures { result ≡ stray (Some Kind.Earmark) x.now }
-{
-    x.account != 0
-        || x.counterparty != 0
-        || x.item != 0
-        || x.currency != 0
-        || x.quantity != 0
-        || x.amount != 0
-}
-
-// A field that the kind does not use is not 0.
+// A field that the kind does not use is not 0: the instruction is not the one with those fields left out.
 fn has_stray_field(kind: Kind, x: &Instruction) -> bool
     ensures { result ≡ stray (Some kind) x.now }
 {
-    match kind {
-        Kind::Issue => x.counterparty != 0 || x.currency != 0 || x.trade != 0 || x.amount != 0,
-        Kind::PayIn => x.counterparty != 0 || x.item != 0 || x.trade != 0 || x.quantity != 0,
-        Kind::Enter => false,
-        Kind::Earmark | Kind::Fund | Kind::Settle | Kind::Free => past_trade(x),
-    }
+    let unused = Instruction {
+        kind: x.kind,
+        ..Instruction::default()
+    };
+    let used = match kind {
+        Kind::Issue => Instruction {
+            account: x.account,
+            item: x.item,
+            quantity: x.quantity,
+            ..unused
+        },
+        Kind::PayIn => Instruction {
+            account: x.account,
+            currency: x.currency,
+            amount: x.amount,
+            ..unused
+        },
+        Kind::Enter => *x,
+        Kind::Earmark | Kind::Fund | Kind::Settle | Kind::Free => Instruction {
+            trade: x.trade,
+            ..unused
+        },
+    };
+    *x != used
 }
 
 // The account has so much of the item free.
