@@ -253,7 +253,8 @@ fn kind_of(letter: u8) -> Option<Kind>
     }
 }
 
-// The fields that the kind uses, in the order of the instruction's bytes, and 0 in the others.
+// The fields that the kind uses, in the order of the instruction's bytes, and 0 in the others. The line has to end after
+// them, which is left to the caller.
 fn read_instruction(kind: Kind, tokens: &mut Tokens) -> Option<Instruction>
     ensures { instruction_of kind tokens.old.rest.now ≡ then result (ended tokens.new.rest.now) }
 {
@@ -288,7 +289,7 @@ fn read_instruction(kind: Kind, tokens: &mut Tokens) -> Option<Instruction>
     Some(instruction)
 }
 
-// An instruction with 0 in each field.
+// An instruction of the kind with 0 in each field.
 fn blank(kind: Kind) -> Instruction
     ensures { result ≡ on_trade kind 0 }
 {
