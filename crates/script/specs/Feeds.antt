@@ -1,6 +1,7 @@
 -- A text as lines, each ended by a line feed (10), which the last line may lack. Assumes nothing.
 use Rattle.std.specs.Prelude.{◌≡◌, ℕ, Bool, cond, not, List, [], ◌∷◌, ◌++◌, take, drop, ◌==◌, ◌≢◌}
 use Rattle.std.specs.List.{prefix_len, flat_map, AllByRecursion}
+use Rattle.script.specs.declared.Lines.{Lines}
 
 abbrev pub in_line : ℕ → Bool
 in_line c = not (c == 10)
@@ -21,6 +22,10 @@ on_first c (l ∷ ls) = (c ∷ l) ∷ ls
 unfoldable pub lines_of : List ℕ → List (List ℕ)
 lines_of [] = []
 lines_of (c ∷ cs) = cond (c == 10) ([] ∷ lines_of cs) (on_first c (lines_of cs))
+
+-- the lines that `Lines` has left
+abbrev pub lines_left : Lines → List (List ℕ)
+lines_left it = lines_of it.rest.now
 
 -- a text with the line feed that its last line lacks
 abbrev pub closed : List ℕ → List ℕ

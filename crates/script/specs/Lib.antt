@@ -1,5 +1,4 @@
 pub mod Words
 pub mod Numerals
 pub mod Feeds
-pub mod Left
 pub mod Requests

@@ -11,7 +11,7 @@ ghost use Rattle.std.proofs.Common.{lit<, rules};
 ghost use Rattle.std.specs.declared.num.TryFromIntError.{TryFromIntError};
 ghost use Rattle.script.specs.Words.{is_digit, word, first_word, word_length};
 ghost use Rattle.script.specs.Numerals.{numeral, ReadsNumber};
-ghost use Rattle.script.specs.Feeds.{in_line, first_line, after_line, lines_of, Splits};
+ghost use Rattle.script.specs.Feeds.{in_line, first_line, after_line, lines_of, lines_left, Splits};
 ghost use Rattle.script.specs.Requests.{field_of, past, then, ended, on_trade, instruction_of, position_of, kind_for, request_of, request_in, ReadsLine};
 
 use answers::Refusal;
@@ -40,7 +40,8 @@ trait Width: TryFrom<u64, Error = TryFromIntError> {
     ghost narrow: { most < 2 ^ 64 };
 
     // A number becomes a value exactly where the type holds it.
-    ghost holds: { (n : ℕ) (r : Result Self TryFromIntError) → Self.try_from_gives n r → option_map number (result_ok r) ≡ then_some (nat_le n most) n };
+    ghost holds: { (n : ℕ) (r : Result Self TryFromIntError) → Self.try_from_gives n r
+        → option_map number (result_ok r) ≡ then_some (nat_le n most) n };
 }
 
 impl Width for u16 {
@@ -135,7 +136,7 @@ pub fn number(digits: &[u8], most: u64) -> Option<u64>
     ensures bound { IfSome result (λ n. n ≤ most) }
     ensures exact { ReadsNumber most digits.now result }
 {
-    decimal(digits).filter(|number| *number <= most)
+    decimal(digits).filter(|n| *n <= most)
 }
 
 // A decimal number with no leading zero. `parse` alone would take a plus sign and leading zeros too.
@@ -179,8 +180,6 @@ impl<'a> Lines<'a> {
 }
 
 impl<'a> Iterator for Lines<'a> {
-    ghost use Rattle.script.specs.Left.{lines_left};
-
     type Item = &'a [u8];
 
     ghost next_gives = { YieldsFirstRef lines_left };
@@ -253,7 +252,8 @@ fn kind_of(letter: u8) -> Option<Kind>
     }
 }
 
-// The fields that the kind uses, in the order of the instruction's bytes, and 0 in the others.
+// The fields that the kind uses, in the order of the instruction's bytes, and 0 in the others. The line has to end after
+// them, which is left to the caller.
 fn read_instruction(kind: Kind, tokens: &mut Tokens) -> Option<Instruction>
     ensures { instruction_of kind tokens.old.rest.now ≡ then result (ended tokens.new.rest.now) }
 {
@@ -288,7 +288,7 @@ fn read_instruction(kind: Kind, tokens: &mut Tokens) -> Option<Instruction>
     Some(instruction)
 }
 
-// An instruction with 0 in each field.
+// An instruction of the kind with 0 in each field. No `Default` can serve: 0 is the code of no kind.
 fn blank(kind: Kind) -> Instruction
     ensures { result ≡ on_trade kind 0 }
 {
