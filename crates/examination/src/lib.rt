@@ -55,11 +55,9 @@ pub fn answer_script<R: Book, C: Book>(
     ledger: &mut Ledger<R, C>,
     script: &[u8],
 ) -> Result<Vec<Answer>, Stop>
-    ensures {
-            MatchResult result
-                (λ answers. Keyed (rulebook R.fixed C.fixed) (standing_of ledger.new) script.now answers.items)
-                (λ stop. Stopped (rulebook R.fixed C.fixed) (standing_of ledger.old) (standing_of ledger.new) script.now stop)
-        }
+    ensures { MatchResult result
+        (λ answers. Keyed (rulebook R.fixed C.fixed) (standing_of ledger.new) script.now answers.items)
+        (λ stop. Stopped (rulebook R.fixed C.fixed) (standing_of ledger.old) (standing_of ledger.new) script.now stop) }
 {
     if script.len() > LONGEST {
         return Err(Stop::Refused(Refusal::InputTooLong));
@@ -79,11 +77,9 @@ pub fn examine<R: Book, C: Book>(
     ledger: &mut Ledger<R, C>,
     script: &[u8],
 ) -> Result<String, Stop>
-    ensures {
-            MatchResult result
-                (λ text. Printed (rulebook R.fixed C.fixed) (standing_of ledger.old) (standing_of ledger.new) script.now (string_bytes text))
-                (λ stop. stop ≡ Stop.NoMemory)
-        }
+    ensures { MatchResult result
+        (λ text. Printed (rulebook R.fixed C.fixed) (standing_of ledger.old) (standing_of ledger.new) script.now (string_bytes text))
+        (λ stop. stop ≡ Stop.NoMemory) }
 {
     match answer_script(heap, ledger, script) {
         Ok(answers) => Ok(key_text(heap, answers.as_slice())?),

@@ -288,7 +288,7 @@ fn read_instruction(kind: Kind, tokens: &mut Tokens) -> Option<Instruction>
     Some(instruction)
 }
 
-// An instruction of the kind with 0 in each field. No `Default` can serve: 0 is the code of no kind.
+// An instruction of the kind with 0 in each other field.
 fn blank(kind: Kind) -> Instruction
     ensures { result ≡ on_trade kind 0 }
 {

@@ -1,6 +1,6 @@
-use Rattle.std.proofs.Common.{◌≡◌, true, false, take, drop, Err, ap, ◌∙◌, rules}
+use Rattle.std.proofs.Common.{◌≡◌, true, false, drop, Err, ap, ◌∙◌, rules}
 use Rattle.answers.specs.declared.Refusal.TheVariants.{Malformed}
-use Rattle.instruction.specs.Layout.{instruction_in, field}
+use Rattle.instruction.specs.Layout.{field}
 use Rattle.journal.specs.Blocks.{all_zero, record_in}
 use Rattle.journal.proofs.Trips.{reads-record, rest-is, record-told}
 use Rattle.journal.proofs.entry.read_record.Goals as goal
