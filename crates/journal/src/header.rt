@@ -36,9 +36,12 @@ impl Header {
         ensures value { result ≡ header_in block.now }
         ensures exact { ReadsHeader block.now result }
     {
-        let [1, 2, register, cash, n0, n1, n2, n3, rest @ ..] = &block[..] else {
+        let [edition, books, register, cash, n0, n1, n2, n3, rest @ ..] = &block[..] else {
             return Err(Refusal::NotAHeader);
         };
+        if *edition != 1 || *books != 2 {
+            return Err(Refusal::NotAHeader);
+        }
         let pairs = u32::from_little_endian([*n0, *n1, *n2, *n3]);
         if pairs < 1 || pairs > MOST_PAIRS {
             return Err(Refusal::NotAHeader);

@@ -19,7 +19,7 @@ pub data Word : Type 0 where
   end : Word
 
 abbrev pub word : Token → Word
-word (Letter c) = letter c
+word (Letter c) = letter c.now
 word (Digits p) = digits p.now
 word Space = space
 word Other = other

@@ -21,7 +21,7 @@ use std::num::TryFromIntError;
 // A part of a line. A letter is one of A to Z, and digits are as many as follow one another.
 #[derive(Clone, Copy)]
 pub enum Token<'a> {
-    Letter(u8),
+    Letter(&'a u8),
     Digits(&'a [u8]),
     Space,
     Other,
@@ -95,7 +95,7 @@ impl<'a> Tokens<'a> {
             return Token::End;
         };
         let (token, after) = match *first {
-            letter @ b'A'..=b'Z' => (Token::Letter(letter), after),
+            b'A'..=b'Z' => (Token::Letter(first), after),
             b'0'..=b'9' => {
                 let (digits, after) = self.rest.split_at(digit_count(self.rest));
                 (Token::Digits(digits), after)
@@ -228,26 +228,26 @@ fn read_request(line: &[u8]) -> Option<Request>
     let Token::Letter(letter) = tokens.next_token() else {
         return None;
     };
-    let request = match letter {
-        b'Q' => Request::Register(read_position(&mut tokens)?),
-        b'K' => Request::Cash(read_position(&mut tokens)?),
+    let request = match *letter as char {
+        'Q' => Request::Register(read_position(&mut tokens)?),
+        'K' => Request::Cash(read_position(&mut tokens)?),
         letter => Request::Instruct(read_instruction(kind_of(letter)?, &mut tokens)?),
     };
     tokens.rest.is_empty().then_some(request)
 }
 
 // The kind of a script's letter. The letters are this crate's, and a `TryFrom` would have to stand beside `Kind`.
-fn kind_of(letter: u8) -> Option<Kind>
+fn kind_of(letter: char) -> Option<Kind>
     ensures { result ≡ kind_for letter }
 {
     match letter {
-        b'I' => Some(Kind::Issue),
-        b'D' => Some(Kind::PayIn),
-        b'T' => Some(Kind::Enter),
-        b'E' => Some(Kind::Earmark),
-        b'L' => Some(Kind::Fund),
-        b'S' => Some(Kind::Settle),
-        b'F' => Some(Kind::Free),
+        'I' => Some(Kind::Issue),
+        'D' => Some(Kind::PayIn),
+        'T' => Some(Kind::Enter),
+        'E' => Some(Kind::Earmark),
+        'L' => Some(Kind::Fund),
+        'S' => Some(Kind::Settle),
+        'F' => Some(Kind::Free),
         _ => None,
     }
 }
