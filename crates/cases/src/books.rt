@@ -3,21 +3,28 @@ use answers::{Refusal, answer_number};
 use balances::Balances;
 use book::Book;
 use lots::Lots;
+use std::fmt;
 
 const ACCOUNTS: [u16; 4] = [0, 63, 64, 65535];
 
-fn amount(answer: Result<u64, Refusal>) -> (u8, u64) {
-    match answer {
-        Ok(amount) => (0, amount),
-        Err(refusal) => (refusal.number(), 0),
+// The answer to a question as it is told: its number, and the amount or 0.
+#[derive(Clone, Copy)]
+struct Told(Result<u64, Refusal>);
+
+impl fmt::Display for Told {
+    fn fmt<W: fmt::Write>(&self, f: &mut fmt::Formatter<W>) -> fmt::Result {
+        match self.0 {
+            Ok(amount) => write!(f, "0 {amount}"),
+            Err(refusal) => write!(f, "{} 0", refusal.number()),
+        }
     }
 }
 
 // The questions of one account and item.
 fn ask<B: Book>(rt: &HostRuntime, book: &B, account: u16, item: u16) -> anyhow::Result<()> {
-    let (free_answer, free) = amount(book.free(account, item));
-    let (blocked_answer, blocked) = amount(book.blocked(account, item));
-    println!(rt; "  free {free_answer} {free} blocked {blocked_answer} {blocked}")?;
+    let free = Told(book.free(account, item));
+    let blocked = Told(book.blocked(account, item));
+    println!(rt; "  free {free} blocked {blocked}")?;
     Ok(())
 }
 
