@@ -1,15 +1,13 @@
 -- Rows of an image, at any width.
-use Rattle.std.proofs.Common.{◌≡◌, ℕ, ◌+◌, ◌-◌, ◌*◌, ◌/◌, ◌%◌, ◌<◌, ◌≤◌, min, ◌≢◌, List, length, get_or, take, drop, Vec, sym, ap, ◌∙◌, subst, inl, inr, mod-lt, mul_comm, mul-le-mul_left, mul-add, div-mul-le_self, arith, length-drop, length-take}
-use native.Mathlib.Nat.{div-add-mod}
+use Rattle.std.proofs.Common.{◌≡◌, ℕ, ◌+◌, ◌-◌, ◌*◌, ◌/◌, ◌<◌, ◌≤◌, min, ◌≢◌, List, length, get_or, take, drop, Vec, sym, ap, ◌∙◌, subst, inl, inr, mul_comm, mul-le-mul_left, mul-add, div-mul-le_self, arith, length-drop, length-take}
 use borrow.Rule.Slice.PartMut.{put_mid}
 use Rattle.std.specs.Vec.{with_items}
 use Rattle.std.specs.declared.alloc.Global.{Global}
 use Rattle.std.proofs.lemmas.List.{get_or-take, get_or-drop, ext_get_or, with_items_is}
-use Rattle.std.proofs.lemmas.Bool.{cases_lt, cases_eq, cases_order}
-use Rattle.std.proofs.lemmas.Nat.{div_below}
-use Rattle.device.specs.Bytes.{Bytes, splice}
+use Rattle.std.proofs.lemmas.Bool.{cases_eq, cases_order}
+use Rattle.device.specs.Bytes.{splice}
 use Rattle.device.specs.Images.{blocks, row, put, EachRow}
-use Rattle.device.proofs.Splices.{length-splice, splice-outside, cut-outside, cut-same, cut-bytes, mid-is}
+use Rattle.device.proofs.Splices.{length-splice, splice-outside, cut-outside, cut-same, mid-is}
 
 -- a row ends where the next begins
 pub row-end : (w k : ℕ) → w * (k + 1) ≡ w * k + w
@@ -106,25 +104,3 @@ each_again w f g n xs ys b r h s lt full e others =
 -- the same change, said otherwise
 pub each-as : (w : ℕ) (f g : ℕ → List ℕ → List ℕ) (n : ℕ) (xs ys : List ℕ) → EachRow w f n xs ys → ((b : ℕ) → b < n → f b (row w xs b) ≡ g b (row w xs b)) → EachRow w g n xs ys
 each-as w f g n xs ys s h = record { len = s.len; rows = λ b l. s.rows b l ∙ h b l; rest = s.rest }
-
--- the Vec of the image, after a change of all its rows: s is what the image lent, and new what the slice holds
-pub lent-each : (w : ℕ) (f : List ℕ → ℕ → List ℕ → List ℕ) (v : Vec ℕ Global) (s new : List ℕ) (n : ℕ) → n ≡ blocks w v.items → s ≡ v.items → EachRow w (f s) n s new → EachRow w (f v.items) (blocks w v.items) v.items (with_items v new).items
-lent-each w f v s new n sized lent each =
-    let here : EachRow w (f v.items) (blocks w v.items) v.items new =
-    subst (λ (k : ℕ). EachRow w (f v.items) k v.items new) sized (subst (λ (zs : List ℕ). EachRow w (f zs) n zs new) lent each) in
-    subst (λ (zs : List ℕ). EachRow w (f v.items) (blocks w v.items) v.items zs) (sym (with_items_is v new (here.len ∙ sym v.ok.0))) here
-
--- rows of bytes make an image of bytes
-pub each-bytes : (w : ℕ) (f : ℕ → List ℕ → List ℕ) (n : ℕ) (xs ys : List ℕ) → 0 < w → EachRow w f n xs ys → Bytes xs → ((b : ℕ) → b < n → Bytes (row w xs b) → Bytes (f b (row w xs b))) → Bytes ys
-each-bytes w f n xs ys pos s hx hf k =
-    elim (cases_lt k (w * n)) [
-      | inl l ↦
-          let b = k / w in
-          let i : k / w < n = div_below k w n pos (omega (arith, mul_comm n w)) in
-          let j : k % w < w = mod-lt k pos in
-          let e : get_or (row w ys (k / w)) (k % w) 0 ≡ get_or ys k 0 =
-          get_or-take w (drop (w * (k / w)) ys) (k % w) 0 j ∙ get_or-drop (w * (k / w)) ys (k % w) 0 ∙ ap (λ (m : ℕ). get_or ys m 0) (div-add-mod k w) in
-          let h : Bytes (row w ys (k / w)) = subst Bytes (sym (s.rows (k / w) i)) (hf (k / w) i (cut-bytes xs w (w * (k / w)) hx)) in
-          subst (λ (x : ℕ). x < 256) e (h (k % w))
-      | inr g ↦ subst (λ (x : ℕ). x < 256) (sym (s.rest k g)) (hx k)
-    ]

@@ -75,6 +75,11 @@ cons-bytes x xs hx h (suc k) = h k
 pub rest-bytes : (xs : List ℕ) (n : ℕ) → Bytes xs → Bytes (drop n xs)
 rest-bytes xs n h k = rw (get_or-drop n xs k 0) (h (n + k))
 
+pub splice-bytes : (xs : List ℕ) (at : ℕ) (ys : List ℕ) → Bytes xs → Bytes ys → Bytes (splice xs at ys)
+splice-bytes xs at ys hx hy =
+    join-bytes (take at xs) (ys ++ drop (at + length ys) xs) (cut-bytes xs at 0 hx)
+    (join-bytes ys (drop (at + length ys) xs) hy (rest-bytes xs (at + length ys) hx))
+
 -- a write to `xs[at..]` of ys, after one byte before it
 pub store_is : (xs ys : List ℕ) (at k y : ℕ) → at + 1 + length ys ≤ length xs → k ≡ length ys → put_mid (at + 1) k (set xs at y) ys ≡ splice xs at (y ∷ ys)
 store_is xs ys at k y h e =

@@ -1,17 +1,16 @@
 -- What a sync and a restart of an image mean.
-use Rattle.std.proofs.Common.{◌≡◌, ℕ, zero, suc, ◌+◌, ◌*◌, ◌<◌, ◌≤◌, Bool, true, false, cond, List, [], length, get_or, drop, Some, None, Option, IsSomeAnd, MatchOption, Vec, Iter, Bor, vec_items, sym, refl, ap, ◌∙◌, inl, inr, add-one, arith, lit<}
+use Rattle.std.proofs.Common.{◌≡◌, ℕ, zero, suc, ◌+◌, ◌*◌, ◌<◌, ◌≤◌, Bool, true, false, cond, List, [], length, get_or, drop, Some, None, Option, IsSomeAnd, MatchOption, Vec, Iter, Bor, vec_items, sym, refl, ap, ◌∙◌, inl, inr, add-one, arith}
 use Rattle.std.proofs.lemmas.Bool.{false≢true, cases_Bool, cases_eq, cond_both, cond-true, cond-false}
 use Rattle.std.specs.declared.alloc.Global.{Global}
 use Rattle.std.specs.Option.{option_copied, unwrap_or}
 use Rattle.std.specs.Slice.Iter.{iter_steps, iter_rest}
 use Rattle.std.proofs.lemmas.List.{drop_all, drop-drop, get_or_past}
-use Rattle.device.specs.Bytes.{Bytes}
 use Rattle.device.specs.Images.{blocks, row, put, of_row, EachRow}
-use Rattle.device.proofs.Rows.{room, row-full, row_same, row_other, each-bytes}
+use Rattle.device.proofs.Rows.{room, row-full, row_same, row_other}
 use Rattle.device.proofs.Meaning.{of-row-here, of-row-same, of-row-none}
 use Rattle.simulated.specs.Rows.{is_loose, shown, synced, loose_below, restarted}
 use Rattle.simulated.specs.Lists.{Lists, Short}
-use Rattle.simulated.specs.RowLaws.{keeping-full, keeping-firm, synced-firm, synced-shown, synced-bytes, revived-any, revived-bytes}
+use Rattle.simulated.specs.RowLaws.{keeping-full, keeping-firm, synced-firm, synced-shown, revived-any}
 
 pub loose-more : (xs : List ℕ) (b : ℕ) → loose_below xs (b + 1) ≡ cond (is_loose (row 514 xs b)) (loose_below xs b + 1) (loose_below xs b)
 loose-more xs b = ap (loose_below xs) (add-one b)
@@ -26,9 +25,6 @@ module _ (xs rem : List ℕ) (b : ℕ) (r : List ℕ) (full : length r ≡ 514) 
   restarted-firm =
       cond_both (is_loose r) _ _ (λ zs. is_loose zs ≡ false)
       (λ _. revived-any (λ zs. is_loose zs ≡ false) (get_or rem (loose_below xs b) 0) r full (λ flag bytes n. keeping-firm r bytes flag full n)) (λ f. f)
-
-  restarted-bytes : Bytes rem → Bytes r → Bytes (restarted xs rem b r)
-  restarted-bytes hm hr = cond_both (is_loose r) _ _ Bytes (λ _. revived-bytes (get_or rem (loose_below xs b) 0) r (hm (loose_below xs b)) hr) (λ _. hr)
 
 -- a write that makes a block loose: one more is loose, if the block was not
 module _ (image : List ℕ) (b : ℕ) (r : List ℕ) (in-range : 514 * b + 514 ≤ length image) (full : length r ≡ 514) (loose : is_loose r ≡ true) where
@@ -84,9 +80,6 @@ module _ (xs ys : List ℕ) (s : EachRow 514 synced (blocks 514 xs) xs ys) where
   pub sync-firm : (k : ℕ) → of_row 514 is_loose false ys k ≡ false
   sync-firm k = of-row-none 514 is_loose false xs ys k s.len (λ h. ap is_loose (s.rows k h) ∙ synced-firm k (row 514 xs k) (full_at k h))
 
-  pub sync-bytes : Bytes xs → Bytes ys
-  sync-bytes h = each-bytes 514 synced (blocks 514 xs) xs ys (lit< tt) s h (λ b l hr. synced-bytes b (row 514 xs b) (full_at b l) hr)
-
 module _ (xs ys rem : List ℕ) (s : EachRow 514 (restarted xs rem) (blocks 514 xs) xs ys) where
   whole-at : (b : ℕ) → b < blocks 514 xs → length (row 514 xs b) ≡ 514
   whole-at b h = row-full 514 xs b (room 514 xs b h)
@@ -100,9 +93,6 @@ module _ (xs ys rem : List ℕ) (s : EachRow 514 (restarted xs rem) (blocks 514 
 
   pub restart-firm : (k : ℕ) → of_row 514 is_loose false ys k ≡ false
   restart-firm k = of-row-none 514 is_loose false xs ys k s.len (λ h. ap is_loose (s.rows k h) ∙ restarted-firm xs rem k (row 514 xs k) (whole-at k h))
-
-  pub restart-bytes : Bytes rem → Bytes xs → Bytes ys
-  restart-bytes hm hx = each-bytes 514 (restarted xs rem) (blocks 514 xs) xs ys (lit< tt) s hx (λ b l hr. restarted-bytes xs rem b (row 514 xs b) (whole-at b l) hm hr)
 
 -- the next byte of the remains, or 0 past their end
 pub next-byte : (s t : Iter ℕ) (r : Option (Bor ℕ)) → iter_steps s r t → unwrap_or (option_copied r) 0 ≡ get_or (iter_rest s) 0 0

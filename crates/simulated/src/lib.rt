@@ -52,10 +52,8 @@ impl Device for Simulated {
         ensures image { ImageSynced result (image_of self.old) (image_of self.new) }
     {
         self.rows.spend()?;
-        let heap = *self.rows.image.allocator();
-        let image = self.rows.image.as_mut_slice();
-        self.loose.sync(image, self.rows.size);
-        self.loose.clear(heap);
+        self.loose.sync(&mut self.rows);
+        self.loose.clear(*self.rows.image.allocator());
         Ok(())
     }
 }
@@ -72,9 +70,7 @@ impl PoweredDevice for Simulated {
         ensures kind { ImageRestarted (image_of self.old) remains.now (image_of self.new) }
     {
         self.rows.left = calls;
-        let heap = *self.rows.image.allocator();
-        let image = self.rows.image.as_mut_slice();
-        restart_all(image, self.rows.size, remains);
-        self.loose.clear(heap);
+        restart_all(&mut self.rows, remains);
+        self.loose.clear(*self.rows.image.allocator());
     }
 }

@@ -1,11 +1,12 @@
 // The loose blocks of an image, listed beside it.
 ghost use Rattle.std.specs.Prelude.{◌≡◌, ◌≤◌, ◌<◌, ◌*◌, true, [], length, IfOk, IsSomeAnd};
-ghost use Rattle.device.specs.Images.{blocks, EachRow};
+ghost use Rattle.device.specs.Images.{EachRow};
 ghost use Rattle.simulated.specs.Rows.{loose_below, synced};
 ghost use Rattle.simulated.specs.Lists.{Lists, NamedIn, Names, Noted, Short};
 
 use crate::rows::{ROW, row_is_loose};
 use crate::sweeps::{sync_all, sync_listed};
+use device::Imaged;
 use std::alloc::{AllocError, Global};
 
 // The loose blocks, in no order and each once, so that a sync costs what they cost and not what the device does. There is no
@@ -16,14 +17,13 @@ pub(crate) struct LooseBlocks {
 }
 
 // Lists the loose blocks of an image.
-fn list_loose(image: &[u8], size: u32, heap: Global) -> Result<Vec<u32>, AllocError>
-    requires { size ≡ blocks 514 image.now }
-    ensures listed { IfOk result (λ v. Names v.items image.now) }
-    ensures short { IfOk result (λ v. length v.items ≤ loose_below image.now size) }
+fn list_loose(rows: &Imaged<ROW>) -> Result<Vec<u32>, AllocError>
+    ensures listed { IfOk result (λ v. Names v.items rows.now.image.items) }
+    ensures short { IfOk result (λ v. length v.items ≤ loose_below rows.now.image.items rows.now.size) }
 {
-    let (rows, _) = image.as_chunks::<ROW>();
-    let mut list = Vec::new(heap);
-    for (b, row) in rows[..size as usize].iter().enumerate() {
+    let (all, _) = rows.image.as_slice().as_chunks::<ROW>();
+    let mut list = Vec::new(*rows.image.allocator());
+    for (b, row) in all[..rows.size as usize].iter().enumerate() {
         if row_is_loose(row) {
             list.push(b as u32)?;
         }
@@ -33,13 +33,12 @@ fn list_loose(image: &[u8], size: u32, heap: Global) -> Result<Vec<u32>, AllocEr
 
 impl LooseBlocks {
     // The loose blocks of an image.
-    pub(crate) fn of_image(image: &[u8], size: u32, heap: Global) -> LooseBlocks
-        requires { size ≡ blocks 514 image.now }
-        ensures listed { Lists result.list image.now }
-        ensures short { Short result.list (loose_below image.now size) }
+    pub(crate) fn of_rows(rows: &Imaged<ROW>) -> LooseBlocks
+        ensures listed { Lists result.list rows.now.image.items }
+        ensures short { Short result.list (loose_below rows.now.image.items rows.now.size) }
     {
         LooseBlocks {
-            list: list_loose(image, size, heap).ok(),
+            list: list_loose(rows).ok(),
         }
     }
 
@@ -60,14 +59,14 @@ impl LooseBlocks {
     }
 
     // Syncs the loose rows of the image, by the list alone if there is one.
-    pub(crate) fn sync(&self, image: &mut [u8], size: u32)
-        requires sized { size ≡ blocks 514 image.old }
-        requires listed { Lists self.now.list image.old }
-        ensures { EachRow 514 synced size image.old image.new }
+    pub(crate) fn sync(&self, rows: &mut Imaged<ROW>)
+        requires { Lists self.now.list rows.old.image.items }
+        ensures image { EachRow 514 synced rows.old.size rows.old.image.items rows.new.image.items }
+        ensures left { rows.new.left ≡ rows.old.left }
     {
         match &self.list {
-            Some(list) => sync_listed(image, size, list.as_slice()),
-            None => sync_all(image, size),
+            Some(list) => sync_listed(rows, list.as_slice()),
+            None => sync_all(rows),
         }
     }
 

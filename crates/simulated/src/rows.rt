@@ -2,6 +2,7 @@
 // 256 newer bytes.
 ghost use Rattle.std.specs.Prelude.{◌≡◌, drop, length, if◌then◌else◌, slice_index};
 ghost use Rattle.std.specs.Slice.Iter.{iter_rest};
+ghost use Rattle.device.specs.Bytes.{Bytes};
 ghost use Rattle.device.specs.Images.{kept};
 ghost use Rattle.simulated.specs.Rows.{is_loose, newer, shown, written, keeping, synced, torn, revived};
 ghost use Rattle.simulated.specs.RowLaws.{written-full, written-shown};
@@ -127,6 +128,7 @@ pub(crate) fn restart_row(row: &mut [u8], remains: &mut Iter<'_, u8>)
     requires { length row.old ≡ 514 }
     ensures row { row.new ≡ (if is_loose row.old then revived (slice_index (iter_rest remains.old) 0) row.old else row.old) }
     ensures taken { iter_rest remains.new ≡ (if is_loose row.old then drop 1 (iter_rest remains.old) else iter_rest remains.old) }
+    ensures bytes { Bytes row.new }
 {
     let Some(row) = row.as_mut_array() else {
         return;

@@ -12,7 +12,7 @@ use device::Imaged;
 pub struct Simulated {
     pub(crate) rows: Imaged<ROW>,
     pub(crate) loose: LooseBlocks,
-    ghost named: { Lists loose.list rows.image.items } by { Prim.hlevel props },
+    ghost listed: { Lists loose.list rows.image.items } by { Prim.hlevel props },
     ghost short: { Short loose.list (loose_below rows.image.items rows.size) } by { Prim.hlevel props },
 }
 
@@ -23,8 +23,7 @@ impl Simulated {
         ensures left { result.rows.left ≡ calls }
     {
         let rows = Imaged::new(image, calls);
-        let heap = *rows.image.allocator();
-        let loose = LooseBlocks::of_image(rows.image.as_slice(), rows.size, heap);
+        let loose = LooseBlocks::of_rows(&rows);
         Simulated { rows, loose }
     }
 

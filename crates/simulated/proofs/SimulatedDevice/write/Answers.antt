@@ -28,6 +28,6 @@ invariant_of-self-2 c =
     ∙ loose-put xs b r (room 514 xs b here.in-range) (written-full (row 514 xs b) bytes wide here.whole) (written-loose (row 514 xs b) bytes wide here.whole) d.rows.size (omega (arith, here.in-range, d.rows.sized))
     ∙ ap (λ (t : Bool). cond t (loose_below xs d.rows.size) (loose_below xs d.rows.size + 1)) loose in
     record {
-      named = lists-noted d.loose.list c.note.new.self.list xs ys c.is_some_and-loose.result b c.note.ensures call.elsewhere.loose d.named;
+      listed = lists-noted d.loose.list c.note.new.self.list xs ys c.is_some_and-loose.result b c.note.ensures call.elsewhere.loose d.listed;
       short = short-noted d.loose.list c.note.new.self.list (loose_below xs d.rows.size) (loose_below ys n) c.is_some_and-loose.result b c.note.ensures d.short count;
     }

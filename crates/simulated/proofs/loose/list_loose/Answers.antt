@@ -12,17 +12,18 @@ use Rattle.simulated.proofs.loose.list_loose.Goals.{then-row_is_loose+in_ok-push
 
 pub loop-b-preserved : goal.loop-b-preserved
 loop-b-preserved c =
-    let xs = c.args.image.now in
+    let xs = c.args.rows.now.image.items in
     let b = c.loop-b.b in
-    let size = c.args.size in
+    let size = c.args.rows.now.size in
     let rows = c.as_chunks.result.0.now in
     let old = c.loop-b.list.items in
     let inv = c.loop-b.invariant in
-    let long = length-take c.args.size c.as_chunks.result.0.now in
-    let here : c.loop-b.b < c.args.size = omega (arith, long) in
-    let among : c.loop-b.b < length c.args.image.now / 514 = omega (arith, long, c.as_chunks.ensures.front_len) in
+    let long = length-take c.args.rows.now.size c.as_chunks.result.0.now in
+    let here : c.loop-b.b < c.args.rows.now.size = omega (arith, long) in
+    let seen_image = c.as_slice.result.now in
+    let among : c.loop-b.b < length c.as_slice.result.now / 514 = omega (arith, long, c.as_chunks.ensures.front_len) in
     let seen : c.row_is_loose.result ≡ is_loose (row 514 xs b) =
-    c.row_is_loose.ensures ∙ ap is_loose (get_or-take size rows b [] here ∙ ap (λ (rs : List (List ℕ)). get_or rs b []) c.as_chunks.ensures.front ∙ chunk-row (length xs / 514) xs b [] among) in
+    c.row_is_loose.ensures ∙ ap is_loose (get_or-take size rows b [] here ∙ ap (λ (rs : List (List ℕ)). get_or rs b []) c.as_chunks.ensures.front ∙ chunk-row (length seen_image / 514) seen_image b [] among ∙ ap (λ (zs : List ℕ). row 514 zs b) c.as_slice.ensures.value) in
     elim c.if-row_is_loose.branch [
       | then-row_is_loose+in_ok-push w ↦
           let is : vec_items c.if-row_is_loose.list ≡ old ++ (b ∷ []) = ap vec_items w.list-is ∙ pushed (b ∷ []) refl w.in_ok-push.was w.push.ensures.items in
@@ -51,9 +52,10 @@ loop-b-preserved c =
 
 pub returns : goal.returns
 returns c =
-    let long = length-take c.args.size c.as_chunks.result.0.now in
-    let all : c.loop-b.b ≡ c.args.size = omega (arith, long, c.as_chunks.ensures.front_len) in
+    let long = length-take c.args.rows.now.size c.as_chunks.result.0.now in
+    let same : length c.as_slice.result.now / 514 ≡ length c.args.rows.now.image.items / 514 = ap (λ (zs : List ℕ). length zs / 514) c.as_slice.ensures.value in
+    let all : c.loop-b.b ≡ c.args.rows.now.size = omega (arith, long, same, c.as_chunks.ensures.front_len, c.args.rows.now.sized) in
     record {
-      listed = lists-from c.loop-b.list.items c.args.image.now (λ b l e. c.loop-b.invariant.0 b (omega arith) e);
-      short = omega (arith, c.loop-b.invariant.1, ap (loose_below c.args.image.now) all);
+      listed = lists-from c.loop-b.list.items c.args.rows.now.image.items (λ b l e. c.loop-b.invariant.0 b (omega arith) e);
+      short = omega (arith, c.loop-b.invariant.1, ap (loose_below c.args.rows.now.image.items) all);
     }

@@ -6,5 +6,5 @@ use Rattle.simulated.proofs.loose.list_loose.Given as goal
 
 abbrev pub invariant-loop-b : goal.invariant-loop-b
 invariant-loop-b l =
-    ((k : ℕ) → k < l.b → is_loose (row 514 l.image k) ≡ true → names (vec_items l.list) k ≡ true)
-    × (length (vec_items l.list) ≤ loose_below l.image l.b)
+    ((k : ℕ) → k < l.b → is_loose (row 514 l.rows.image.items k) ≡ true → names (vec_items l.list) k ≡ true)
+    × (length (vec_items l.list) ≤ loose_below l.rows.image.items l.b)

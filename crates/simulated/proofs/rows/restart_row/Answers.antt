@@ -1,4 +1,4 @@
-use Rattle.std.proofs.Common.{◌≡◌, ℕ, Option, true, get_or, sym, ap, ◌∙◌}
+use Rattle.std.proofs.Common.{◌≡◌, ℕ, Option, true, get_or, sym, ap, ◌∙◌, arith}
 use Rattle.std.proofs.lemmas.Bool.{cond-true}
 use Rattle.std.specs.Option.{unwrap_or}
 use Rattle.std.specs.Slice.Iter.{iter_rest}
@@ -16,4 +16,5 @@ returns-then-row_is_loose c =
     record {
       row = c.revive.ensures ∙ ap (λ (v : ℕ). revived v c.in-Some.row.now) byte ∙ ap (revived (get_or (iter_rest c.args.remains.now) 0 0)) same ∙ sym (cond-true (is_loose r) _ r loose);
       taken = next-rest _ _ _ c.next.ensures.steps ∙ sym (cond-true (is_loose r) _ _ loose);
+      bytes = λ k. omega (arith, c.type_inv.row k);
     }

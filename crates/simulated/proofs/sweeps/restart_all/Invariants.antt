@@ -6,5 +6,7 @@ use Rattle.simulated.proofs.sweeps.restart_all.Given as goal
 
 abbrev pub invariant-loop-b : goal.invariant-loop-b
 invariant-loop-b l =
-    EachRow 514 (restarted l.initial.image l.remains) l.b l.initial.image l.image
-    × (iter_rest l.left ≡ drop (loose_below l.initial.image l.b) l.remains)
+    EachRow 514 (restarted l.initial.rows.image.items l.remains) l.b l.initial.rows.image.items l.rows.image.items
+    × (iter_rest l.to_take ≡ drop (loose_below l.initial.rows.image.items l.b) l.remains)
+    × (l.rows.size ≡ l.initial.rows.size)
+    × (l.rows.left ≡ l.initial.rows.left)

@@ -1,15 +1,20 @@
-use Rattle.std.proofs.Common.{◌+◌, ◌*◌, ◌≤◌, length, refl, arith}
-use Rattle.device.specs.Images.{row}
-use Rattle.device.proofs.Rows.{row-full, each_more}
+use Rattle.std.proofs.Common.{◌+◌, List, ℕ, refl, sym, ◌∙◌, subst, arith}
+use Rattle.device.specs.Images.{row, EachRow}
+use Rattle.device.proofs.Rows.{room, row-full, each_more}
 use Rattle.simulated.specs.Rows.{synced}
 use Rattle.simulated.specs.RowLaws.{synced-full}
 use Rattle.simulated.proofs.sweeps.sync_all.Goals as goal
 
 pub loop-b-preserved : goal.loop-b-preserved
 loop-b-preserved c =
+    let d = c.args.rows.now in
+    let xs = d.image.items in
+    let old = c.loop-b.rows.image.items in
     let b = c.loop-b.b in
-    let old = c.loop-b.image in
-    let r = row 514 old b in
-    let room : 514 * b + 514 ≤ length c.args.image.now = omega arith in
-    let full = synced-full b r (row-full 514 old b (omega (arith, c.loop-b.invariant.len))) in
-    rw c.sync_block.ensures (each_more 514 synced b c.args.image.now old (synced b r) room c.loop-b.invariant full refl)
+    let inv = c.loop-b.invariant in
+    let fits = room 514 xs b (omega (arith, d.sized)) in
+    let full = synced-full b (row 514 old b) (row-full 514 old b (omega (arith, fits, inv.0.len))) in (
+      subst (λ (zs : List ℕ). EachRow 514 synced (b + 1) xs zs) (sym c.sync_block.ensures.image) (each_more 514 synced b xs old (synced b (row 514 old b)) fits inv.0 full refl),
+      c.sync_block.ensures.size ∙ inv.1,
+      c.sync_block.ensures.left ∙ inv.2,
+    )

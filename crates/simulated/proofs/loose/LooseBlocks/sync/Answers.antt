@@ -6,9 +6,12 @@ use Rattle.simulated.proofs.loose.LooseBlocks.sync.Goals as goal
 
 pub returns-in-Some : goal.returns-in-Some
 returns-in-Some c =
-    let xs = c.args.image.now in
-    let ys = c.sync_listed.new.image in
+    let d = c.args.rows.now in
+    let xs = d.image.items in
+    let ys = c.sync_listed.new.rows.image.items in
     let list = c.in-Some.list.items in
-    let named : Names list xs = rw c.in-Some.is at c.requires.listed in
-    listed-all c.args.size xs ys list c.requires.sized named
-    (subst (λ (zs : List ℕ). EachRow 514 (synced_if zs) c.args.size xs ys) c.as_slice.ensures.value c.sync_listed.ensures)
+    let named : Names list xs = rw c.in-Some.is at c.requires in
+    record {
+      image = listed-all d.size xs ys list d.sized named (subst (λ (zs : List ℕ). EachRow 514 (synced_if zs) d.size xs ys) c.as_slice.ensures.value c.sync_listed.ensures.image);
+      left = c.sync_listed.ensures.left;
+    }
