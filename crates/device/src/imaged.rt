@@ -60,9 +60,7 @@ fn store_row<const ROW: usize, L: Layout<ROW>>(row: &mut [u8], bytes: &[u8; BLOC
     requires { length row.old ≡ ROW }
     ensures { row.new ≡ L.written row.old bytes.now }
 {
-    if let Some(row) = row.as_mut_array() {
-        L::store(row, bytes);
-    }
+    L::store(row.as_mut_array().unwrap(), bytes);
 }
 
 impl<const ROW: usize> Imaged<ROW> {

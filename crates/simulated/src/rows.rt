@@ -97,9 +97,7 @@ pub(crate) fn sync_row(row: &mut [u8])
     requires { length row.old ≡ 514 }
     ensures { row.new ≡ synced 0 row.old }
 {
-    let Some(row) = row.as_mut_array() else {
-        return;
-    };
+    let row = row.as_mut_array().unwrap();
     if row_is_loose(row) {
         renew(row);
     }
@@ -130,9 +128,7 @@ pub(crate) fn restart_row(row: &mut [u8], remains: &mut Iter<'_, u8>)
     ensures taken { iter_rest remains.new ≡ (if is_loose row.old then drop 1 (iter_rest remains.old) else iter_rest remains.old) }
     ensures bytes { Bytes row.new }
 {
-    let Some(row) = row.as_mut_array() else {
-        return;
-    };
+    let row = row.as_mut_array().unwrap();
     if row_is_loose(row) {
         let byte = remains.next().copied().unwrap_or(0);
         revive(row, byte);
