@@ -55,7 +55,8 @@ pub fn held_bytes(row: &[u8]) -> Option<&[u8; BLOCK]>
     }
 }
 
-// Puts the bytes of a block into a row, which is all of the slice.
+// Puts the bytes of a block into a row. The row is all of the slice: a caller that lent a part of a slice as an array would
+// not know what the array left there.
 fn store_row<const ROW: usize, L: Layout<ROW>>(row: &mut [u8], bytes: &[u8; BLOCK])
     requires { length row.old ≡ ROW }
     ensures { row.new ≡ L.written row.old bytes.now }

@@ -88,9 +88,11 @@ pub(crate) trait Kind: PoweredDevice + Drop {
 
     const NAME: &'static str;
 
+    // Adds to an image what it holds of a row.
     fn add_row(image: &mut Vec<u8>, row: Row) -> Result<(), AllocError>
         ensures { is_ok result ≡ true → image.new.items ≡ image.old.items ++ pictured row };
 
+    // A device over the image, with no calls.
     fn of_image(image: Vec<u8>) -> Self;
 
     fn back_to_image(self) -> Vec<u8>;

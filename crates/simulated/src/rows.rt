@@ -76,7 +76,7 @@ fn mark(row: &mut [u8; ROW], flag: u8)
 }
 
 // Keeps the newer bytes.
-fn renew(row: &mut [u8; ROW])
+fn keep_newer(row: &mut [u8; ROW])
     ensures { row.new ≡ keeping 0 (newer row.old) row.old }
 {
     let bytes = *newer_bytes(row);
@@ -92,25 +92,27 @@ fn tear(row: &[u8; ROW]) -> [u8; BLOCK]
     bytes
 }
 
-// Moves the newer bytes of a loose row, which is all of the slice, into the kept ones.
+// Moves the newer bytes of a loose row into the kept ones. The row is all of the slice: a caller that lent a part of a slice
+// as an array would not know what the array left there.
 pub(crate) fn sync_row(row: &mut [u8])
     requires { length row.old ≡ 514 }
     ensures { row.new ≡ synced 0 row.old }
 {
     let row = row.as_mut_array().unwrap();
     if row_is_loose(row) {
-        renew(row);
+        keep_newer(row);
     }
 }
 
-// What a restart makes of a loose row, by its byte of the remains.
+// What a restart makes of a loose row, by its byte of the remains. An enum would be no plainer, since most bytes are
+// themselves what the row is filled with.
 fn revive(row: &mut [u8; ROW], byte: u8)
     ensures { row.new ≡ revived byte row.old }
 {
     let flag = row[0];
     match byte {
         0 => mark(row, flag),
-        1 => renew(row),
+        1 => keep_newer(row),
         2 => mark(row, 1),
         3 if flag == 0 => {
             let bytes = tear(row);
@@ -121,7 +123,7 @@ fn revive(row: &mut [u8; ROW], byte: u8)
     }
 }
 
-// Restarts a row, which is all of the slice: a loose one takes the next byte of the remains, or 0 past their end.
+// Restarts a row, which is all of the slice as above: a loose one takes the next byte of the remains, or 0 past their end.
 pub(crate) fn restart_row(row: &mut [u8], remains: &mut Iter<'_, u8>)
     requires { length row.old ≡ 514 }
     ensures row { row.new ≡ (if is_loose row.old then revived (slice_index (iter_rest remains.old) 0) row.old else row.old) }

@@ -1,5 +1,5 @@
-// Many rows of an image. A change goes by block numbers: of a slice that `chunks_mut` or `as_chunks_mut` lent, a proof knows
-// nothing but the length.
+// Many rows of an image. They are changed by block numbers, since of a slice whose rows `chunks_mut` or `as_chunks_mut` lent a
+// proof knows nothing but the length.
 ghost use Rattle.std.specs.Prelude.{◌≡◌, ◌<◌, drop, if◌then◌else◌, slice_index};
 ghost use Rattle.std.specs.Slice.Iter.{iter_rest};
 ghost use Rattle.device.specs.Images.{put, row, EachRow};
@@ -63,7 +63,7 @@ pub(crate) fn restart_all(rows: &mut Imaged<ROW>, remains: &[u8])
     ensures left { rows.new.left ≡ rows.old.left }
 {
     let mut to_take = remains.iter();
-    for b in 0..rows.size {
-        restart_block(rows, b, &mut to_take);
+    for block in 0..rows.size {
+        restart_block(rows, block, &mut to_take);
     }
 }

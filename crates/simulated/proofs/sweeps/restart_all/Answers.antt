@@ -7,15 +7,15 @@ use Rattle.simulated.specs.Rows.{is_loose, loose_below, revived, restarted}
 use Rattle.simulated.proofs.SweepLaws.{restarted-full, taken-more}
 use Rattle.simulated.proofs.sweeps.restart_all.Goals as goal
 
-pub loop-b-preserved : goal.loop-b-preserved
-loop-b-preserved c =
+pub loop-block-preserved : goal.loop-block-preserved
+loop-block-preserved c =
     let d = c.args.rows.now in
     let xs = d.image.items in
     let rem = c.args.remains.now in
-    let b = c.loop-b.b in
-    let old = c.loop-b.rows.image.items in
-    let to_take = iter_rest c.loop-b.to_take in
-    let inv = c.loop-b.invariant in
+    let b = c.loop-block.block in
+    let old = c.loop-block.rows.image.items in
+    let to_take = iter_rest c.loop-block.to_take in
+    let inv = c.loop-block.invariant in
     let was = row 514 old b in
     let fits = room 514 xs b (omega (arith, d.sized)) in
     let next = each_next 514 (restarted xs rem) b xs old inv.0 in
