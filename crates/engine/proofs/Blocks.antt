@@ -9,10 +9,6 @@ use Rattle.device.specs.Medium.{Medium}
 use Rattle.engine.specs.Recovery.{drained}
 use Rattle.device.specs.Calls.{Answer, admitted, and_then, found, SameBlocks, Read}
 
-other : (b : ℕ) (o : Option (List ℕ)) (e : Fault) → Err e ≡ found b o → (e.refusal ≡ Unreadable → ⊥) → ⊥
-other b None e p not_so = not_so (let q : e ≡ at_block Unreadable b = cc in ap (λ (f : Fault). f.refusal) q)
-other b (Some bs) e p not_so = let z : ◌≡◌ {A = ℕ} 0 1 = cc in omega arith
-
 -- devices that differ in nothing but the calls left
 pub same-but-calls : (m m' : Medium) (n : ℕ) → SameBlocks m m' → m'.left ≡ n → m' ≡ record { size = m.size; holds = m.holds; loose = m.loose; left = n }
 same-but-calls m m' n s e =
@@ -20,20 +16,6 @@ same-but-calls m m' n s e =
     let loose = fun_ext (λ k. s.loose k) in
     let size = s.size in
     λ i. record { size = size i; holds = holds i; loose = loose i; left = e i }
-
--- a refused read of a block that there is, which is not unreadable: no calls are left
-pub read-other : {m m' : Medium} {b : ℕ} {old new : List ℕ} {e : Fault} → Read m m' b old new (Err e) → b < m.size → length old ≡ 256 → (e.refusal ≡ Unreadable → ⊥) → (e ≡ at_block NoCalls b) × (m.left ≡ 0)
-read-other {m} {m'} {b} {old} {new} {e} r l full not_so =
-    let p = cond-false _ _ _ (lt-leb m.size b l) ∙ cond-true _ _ _ (eq-eqb (length old) 256 full) in
-    elim (cases_Bool (eqb m.left 0)) [
-      | inl t ↦
-          let a : admitted m.size m.left b (length old) ≡ Err (at_block NoCalls b) = p ∙ cond-true _ _ _ t in
-          let q : Err e ≡ Err (at_block NoCalls b) = r.answer ∙ ap (λ x. and_then x (found b (m.holds b))) a in
-          (cc, eqb-true m.left 0 t)
-      | inr f ↦
-          let a : admitted m.size m.left b (length old) ≡ Ok tt = p ∙ cond-false _ _ _ f in
-          absurd (other b (m.holds b) e (r.answer ∙ ap (λ x. and_then x (found b (m.holds b))) a) not_so)
-    ]
 
 missing : (b : ℕ) (o : Option (List ℕ)) (e : Fault) → Err e ≡ found b o → (e ≡ at_block Unreadable b) × (o ≡ None)
 missing b None e p = (cc, refl)

@@ -1,50 +1,70 @@
 -- The recovery, turn by turn.
-use Rattle.std.proofs.Common.{◌≡◌, ℕ, ◌+◌, ◌-◌, ◌<◌, ◌≤◌, Some, None, Ok, Option, Result, sym, refl, ap, ◌∙◌, add-one, arith}
+use Rattle.std.proofs.Common.{◌≡◌, ℕ, ◌+◌, ◌-◌, ◌<◌, ◌≤◌, Some, None, Ok, Err, Option, Result, sym, refl, ap, ◌∙◌, add-one, arith}
 use Rattle.answers.specs.declared.Fault.{Fault}
 use Rattle.instruction.specs.declared.Instruction.{Instruction}
 use Rattle.rulebook.specs.Rules.{Rulebook, Standing, effect}
 use Rattle.device.specs.Medium.{Medium}
-use Rattle.engine.specs.Recovery.{with_calls, drained, entry_answer, turn, ended, scan}
+use Rattle.engine.specs.declared.engine.Recovered.{Recovered}
+use Rattle.engine.specs.Recovery.{with_calls, drained, entry_answer, spent_by, leads_to, turn, ended, Scan, scan, GoesAs}
 
-pub scan-none : (h : Rulebook) (m : Medium) (k : ℕ) (s : Standing) (last : Option Instruction) → scan h 0 m k s last ≡ ended m k s last
+scan-none : (h : Rulebook) (m : Medium) (k : ℕ) (s : Standing) (last : Option Instruction) → scan h 0 m k s last ≡ ended m k s last
 unfolding scan
 scan-none h m k s last = refl
 
-pub scan-more : (h : Rulebook) (n : ℕ) (m : Medium) (k : ℕ) (s : Standing) (last : Option Instruction)
+scan-more : (h : Rulebook) (n : ℕ) (m : Medium) (k : ℕ) (s : Standing) (last : Option Instruction)
     → scan h (n + 1) m k s last ≡ turn (entry_answer h m s k) m k s last (λ x. scan h n (drained 2 m) (k + 1) (effect s x) (Some x))
 unfolding scan
 scan-more h n m k s last = rw add-one refl
 
--- the recovery of m₀ from s₀ on stands before entry k, at the device m and the standing s
-pub record Turn (h : Rulebook) (pairs : ℕ) (m₀ : Medium) (s₀ : Standing) (k : ℕ) (m : Medium) (s : Standing) (last : Option Instruction) : Type 0 where
+-- the recovery of m₀ from s₀ on stands before entry k, with this found, at the device m and the standing s
+pub record Turn (h : Rulebook) (pairs : ℕ) (m₀ : Medium) (s₀ : Standing) (k : ℕ) (found : Recovered) (m : Medium) (s : Standing) : Type 0 where
   pub within : k ≤ pairs
-  pub same : scan h pairs m₀ 0 s₀ None ≡ scan h (pairs - k) m k s last
+  pub counted : found.count ≡ k
+  pub same : scan h pairs m₀ 0 s₀ None ≡ scan h (pairs - k) m k s found.last
   pub medium : m ≡ with_calls m.left m₀
 
-module _ (h : Rulebook) (pairs : ℕ) (m₀ : Medium) (s₀ : Standing) where
-  pub first-turn : Turn h pairs m₀ s₀ 0 m₀ s₀ None
-  first-turn = record { within = omega arith; same = (let e : pairs ≡ pairs - 0 = omega arith in ap (λ n. scan h n m₀ 0 s₀ None) e); medium = refl }
+-- what the reading of an entry answers, and the device and the standing after it
+abbrev pub EntryRead : Rulebook → ℕ → Medium → Standing → Result (Option Instruction) Fault → Medium → Standing → Type 0
+EntryRead h k m s r m' s' = record { answer : r ≡ entry_answer h m s k; after : m' ≡ drained (spent_by r) m; books : s' ≡ leads_to s r }
 
-  module _ (k : ℕ) (m : Medium) (s : Standing) (last : Option Instruction) (t : Turn h pairs m₀ s₀ k m s last) where
-    -- all entries are used
-    pub all_read : pairs ≤ k → scan h pairs m₀ 0 s₀ None ≡ ended m k s last
-    all_read l = let e : pairs - k ≡ 0 = omega arith in t.same ∙ ap (λ n. scan h n m k s last) e ∙ scan-none h m k s last
+module _ {h : Rulebook} {pairs : ℕ} {m₀ : Medium} {s₀ : Standing} {k : ℕ} {found : Recovered} {m : Medium} {s : Standing} (t : Turn h pairs m₀ s₀ k found m s) where
+  -- what comes after entry k
+  abbrev onward : Instruction → Scan
+  onward x = scan h (pairs - (k + 1)) (drained 2 m) (k + 1) (effect s x) (Some x)
 
-    module _ (l : k < pairs) (r : Result (Option Instruction) Fault) (is : r ≡ entry_answer h m s k) where
-      pub turned : scan h pairs m₀ 0 s₀ None ≡ turn r m k s last (λ x. scan h (pairs - (k + 1)) (drained 2 m) (k + 1) (effect s x) (Some x))
-      turned =
-          let e : pairs - k ≡ pairs - (k + 1) + 1 = omega arith in
-          t.same ∙ ap (λ n. scan h n m k s last) e ∙ scan-more h (pairs - (k + 1)) m k s last ∙ ap (λ a. turn a m k s last (λ x. scan h (pairs - (k + 1)) (drained 2 m) (k + 1) (effect s x) (Some x))) (sym is)
+  goes : {r : Result Recovered Fault} {m' : Medium} {s' : Standing} (n : ℕ) → scan h pairs m₀ 0 s₀ None ≡ record { outcome = r; left = n; standing = s' } → m' ≡ with_calls n m
+      → GoesAs (scan h pairs m₀ 0 s₀ None) m₀ m' s' r
+  goes n e em = rw e (record { answer = refl; device = em ∙ ap (with_calls n) t.medium; books = refl })
 
-      -- the device after it differs in nothing but the calls left
-      pub device-after : (n : ℕ) (m' : Medium) → m' ≡ drained n m → m' ≡ with_calls (m.left - n) m₀
-      device-after n m' e = e ∙ ap (with_calls (m.left - n)) t.medium
+  -- this found, where it ends
+  found-so-far : (m' : Medium) → ended m' k s found.last ≡ record { outcome = Ok found; left = m'.left; standing = s }
+  found-so-far m' = ap (λ j. ended m' j s found.last) (sym t.counted)
 
-    pub next-turn : (x : Instruction) (m' : Medium) (s' : Standing) → k < pairs → Ok (Some x) ≡ entry_answer h m s k → m' ≡ drained 2 m → s' ≡ effect s x → Turn h pairs m₀ s₀ (k + 1) m' s' (Some x)
-    next-turn x m' s' l is em es =
-        let left : m'.left ≡ m.left - 2 = ap (λ (d : Medium). d.left) em in
-        record {
+  -- all entries are used
+  pub all-read : pairs ≤ k → GoesAs (scan h pairs m₀ 0 s₀ None) m₀ m s (Ok found)
+  all-read l =
+      let e : pairs - k ≡ 0 = omega arith in
+      goes m.left (t.same ∙ ap (λ n. scan h n m k s found.last) e ∙ scan-none h m k s found.last ∙ found-so-far m) refl
+
+  turned : k < pairs → (r : Result (Option Instruction) Fault) → r ≡ entry_answer h m s k → scan h pairs m₀ 0 s₀ None ≡ turn r m k s found.last onward
+  turned l r is =
+      let e : pairs - k ≡ pairs - (k + 1) + 1 = omega arith in
+      t.same ∙ ap (λ n. scan h n m k s found.last) e ∙ scan-more h (pairs - (k + 1)) m k s found.last ∙ ap (λ a. turn a m k s found.last onward) (sym is)
+
+  module _ (l : k < pairs) {m' : Medium} {s' : Standing} where
+    -- the mark of entry k is not good
+    pub mark-ends : EntryRead h k m s (Ok None) m' s' → GoesAs (scan h pairs m₀ 0 s₀ None) m₀ m' s' (Ok found)
+    mark-ends e = rw e.books (goes (m.left - 1) (turned l (Ok None) e.answer ∙ found-so-far (drained 1 m)) e.after)
+
+    -- entry k is refused
+    pub entry-refused : (f : Fault) → EntryRead h k m s (Err f) m' s' → GoesAs (scan h pairs m₀ 0 s₀ None) m₀ m' s' (Err f)
+    entry-refused f e = rw e.books (goes (m.left - 2) (turned l (Err f) e.answer) e.after)
+
+    pub next-turn : (x : Instruction) → EntryRead h k m s (Ok (Some x)) m' s' → Turn h pairs m₀ s₀ (k + 1) (record { count = k + 1; last = Some x }) m' s'
+    next-turn x e =
+        rw (e.after, e.books) (record {
           within = omega arith;
-          same = turned l (Ok (Some x)) is ∙ ap (λ d. scan h (pairs - (k + 1)) d (k + 1) (effect s x) (Some x)) (sym em) ∙ ap (λ z. scan h (pairs - (k + 1)) m' (k + 1) z (Some x)) (sym es);
-          medium = device-after l (Ok (Some x)) is 2 m' em ∙ ap (λ n. with_calls n m₀) (sym left);
-        }
+          counted = refl;
+          same = turned l (Ok (Some x)) e.answer;
+          medium = ap (with_calls (m.left - 2)) t.medium;
+        })

@@ -11,7 +11,7 @@ use Rattle.device.specs.Medium.{Medium}
 use Rattle.journal.specs.declared.header.Header.{Header}
 use Rattle.journal.specs.Blocks.{header_in}
 use Rattle.engine.specs.declared.engine.Mode.TheVariants.{Open, Refused}
-use Rattle.engine.specs.declared.opening.Recovered.{Recovered}
+use Rattle.engine.specs.declared.engine.Recovered.{Recovered}
 use Rattle.engine.specs.View.{View}
 use Rattle.engine.specs.Recovery.{with_calls, drained, Scan, scan}
 

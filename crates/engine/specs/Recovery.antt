@@ -1,5 +1,5 @@
 -- What an opening reads, entry by entry. Assumes nothing.
-use Rattle.std.specs.Prelude.{ℕ, zero, suc, ◌+◌, ◌-◌, Bool, true, false, cond, List, Some, None, Ok, Err, Option, Result, ◌==◌}
+use Rattle.std.specs.Prelude.{◌≡◌, ℕ, zero, suc, ◌+◌, ◌-◌, Bool, true, false, cond, List, Some, None, Ok, Err, Option, Result, ◌==◌}
 use Rattle.answers.specs.declared.Refusal.{Refusal}
 use Rattle.answers.specs.declared.Refusal.TheVariants.{NoCalls, Unreadable}
 use Rattle.answers.specs.declared.Fault.{Fault}
@@ -9,7 +9,7 @@ use Rattle.rulebook.specs.Rules.{Rulebook, Standing, verdict, effect}
 use Rattle.device.specs.Medium.{Medium}
 use Rattle.journal.specs.Journal.{record_at, mark_at}
 use Rattle.journal.specs.Blocks.{is_mark, record_in}
-use Rattle.engine.specs.declared.opening.Recovered.{Recovered}
+use Rattle.engine.specs.declared.engine.Recovered.{Recovered}
 
 -- a device with another number of calls left
 abbrev pub with_calls : ℕ → Medium → Medium
@@ -89,3 +89,9 @@ turn (Err f) m k s last onward = record { outcome = Err f; left = m.left - 2; st
 unfoldable pub scan : Rulebook → ℕ → Medium → ℕ → Standing → Option Instruction → Scan
 scan h zero m k s last = ended m k s last
 scan h (suc n) m k s last = turn (entry_answer h m s k) m k s last (λ x. scan h n (drained 2 m) (k + 1) (effect s x) (Some x))
+
+-- a recovery that goes as z says: what it answers, and the device and the books and trades after it
+pub record GoesAs (z : Scan) (before after : Medium) (s : Standing) (r : Result Recovered Fault) : Type 0 where
+  pub answer : r ≡ z.outcome
+  pub device : after ≡ with_calls z.left before
+  pub books : s ≡ z.standing

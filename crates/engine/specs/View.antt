@@ -24,4 +24,4 @@ pub record View : Type 0 where
 
 abbrev pub view : {D R C : Type 0} {d : device.Ghosts D} {r : book.Ghosts R} {c : book.Ghosts C} → (D → Medium) → Engine D R C d r c → View
 view m e =
-    record { mode = e.mode; medium = m e.device; standing = standing_of e.ledger; pairs = e.pairs; found = e.found; last = e.last; count = e.count }
+    record { mode = e.mode; medium = m e.device; standing = standing_of e.ledger; pairs = e.pairs; found = e.found.count; last = e.found.last; count = e.count }

@@ -7,7 +7,14 @@ use device::Device;
 use instruction::Instruction;
 use ledger::Ledger;
 
-#[derive(Clone, Copy)]
+// How many entries a recovery found, and the last of them.
+#[derive(Clone, Copy, Debug, Default, PartialEq, Eq)]
+pub struct Recovered {
+    pub count: u32,
+    pub last: Option<Instruction>,
+}
+
+#[derive(Clone, Copy, Debug, PartialEq, Eq)]
 pub enum Mode {
     Open,
     // power went while this instruction was written
@@ -23,9 +30,8 @@ pub struct Engine<D: Device, R: Book, C: Book> {
     pub(crate) mode: Mode,
     // entries that the journal has room for
     pub(crate) pairs: u32,
-    // entries that the opening found, and the last of them
-    pub(crate) found: u32,
-    pub(crate) last: Option<Instruction>,
+    // what the opening found
+    pub(crate) found: Recovered,
     // entries that stand
     pub(crate) count: u32,
     ghost few: { pairs ≤ 32767 },

@@ -1,6 +1,6 @@
 // The closing slip: plain numbers, owed until it is presented or filed.
 ghost use Rattle.std.specs.Prelude.{◌≡◌, true, is_some};
-ghost use Rattle.engine.specs.Slips.{contents, judged, number_of, is_last};
+ghost use Rattle.engine.specs.Slips.{contents, judged, Judges, number_of, is_last};
 
 use instruction::Instruction;
 
@@ -43,10 +43,7 @@ impl Drop for Slip {
     fn drop(self)
         requires { self.spent ≡ true }
     {
-        let Slip {
-            holds: _,
-            spent: _,
-        } = self;
+        let Slip { holds: _, spent: _ } = self;
     }
 }
 
@@ -77,7 +74,8 @@ impl Slip {
 
     // The verdict where so many entries were found, with this one the last.
     pub(crate) fn judge(self, found: u32, last: Option<Instruction>) -> Verdict
-        ensures { result ≡ judged (contents self) found last }
+        ensures value { result ≡ judged (contents self) found last }
+        ensures exact { Judges (contents self) found last result }
     {
         let Some(holds) = self.file() else {
             return Verdict::Unknown;

@@ -1,12 +1,12 @@
-use Rattle.std.proofs.Common.{Err, ap, ◌∙◌, arith}
-use Rattle.engine.proofs.Blocks.{read-refused, read-spent}
-use Rattle.engine.proofs.Entries.{record-refused}
+use Rattle.std.proofs.Common.{arith}
+use Rattle.std.proofs.lemmas.Result.{err_from_is_err_and}
+use Rattle.std.proofs.lemmas.Grind.{common_steps}
+use Rattle.engine.proofs.Entries.{mapped}
 use Rattle.engine.proofs.opening.read_entry.Goals as goal
 
-pub returns-in-Err : goal.returns-in-Err
-returns-in-Err g c =
-    let p = read-refused c.in-Err.ensures (omega (arith, c.requires.within)) (omega arith) in
-    record {
-      answer = ap (λ f. Err f) c.in_entry.ensures ∙ record-refused (g.D.Device.medium c.args.device.now) c.args.entry _ p;
-      after = read-spent c.in-Err.ensures (omega (arith, c.requires.within)) (omega arith);
-    }
+pub returns-in_err-map_err-clause-answer : goal.returns-in_err-map_err-clause-answer
+returns-in_err-map_err-clause-answer g c =
+    let p = err_from_is_err_and c.from_residual.result c.from_residual.ensures.1 in
+    let q = mapped c.read.result c.in_err-map_err.field-0.0 c.in_err-map_err.ensures.cases in
+    let e = c.read.ensures.answer in
+    grind (arith, common_steps, p, q, e)

@@ -5,12 +5,10 @@ use Rattle.engine.proofs.engine.Engine.open.Goals as goal
 
 pub returns-in-Ok : goal.returns-in-Ok
 returns-in-Ok g c =
-    let h = rulebook g.R.Book.fixed g.C.Book.fixed in
     let e = c.in-Ok.ensures in
-    c.recovered.ensures ∙ headed h (g.D.Device.medium c.args.device) _ _ _ _ c.kind-register_kind.ensures c.kind-cash_kind.ensures e.after e.answer
+    c.recovered.ensures ∙ headed (rulebook g.R.Book.fixed g.C.Book.fixed) (g.D.Device.medium c.args.device) c.kind-register_kind.ensures c.kind-cash_kind.ensures e.after e.answer
 
 pub returns-in-Err : goal.returns-in-Err
 returns-in-Err g c =
-    let h = rulebook g.R.Book.fixed g.C.Book.fixed in
     let e = c.in-Err.ensures in
-    c.refused.ensures ∙ headed h (g.D.Device.medium c.args.device) _ _ _ _ c.kind-register_kind.ensures c.kind-cash_kind.ensures e.after e.answer
+    c.refused.ensures ∙ headed (rulebook g.R.Book.fixed g.C.Book.fixed) (g.D.Device.medium c.args.device) c.kind-register_kind.ensures c.kind-cash_kind.ensures e.after e.answer
