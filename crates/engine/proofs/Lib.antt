@@ -1,5 +1,3 @@
-pub mod Blocks
-pub mod Entries
+pub mod Errors
 pub mod Scans
-pub mod Headers
 pub mod Opens

@@ -5,11 +5,11 @@ use Rattle.rulebook.specs.Terms.{securities, cash}
 use Rattle.rulebook.specs.Rules.{Rulebook, Standing}
 use Rattle.device.specs.Medium.{Medium}
 use Rattle.engine.specs.declared.engine.Recovered.{Recovered}
-use Rattle.engine.specs.Recovery.{Scan, GoesAs}
+use Rattle.engine.specs.Recovery.{Scan, Scanned}
 use Rattle.engine.specs.Opening.{scanned_as, scanned_on, opened_on, opened, header_answer, after_header}
 
 -- the view of what a recovery answered, with the device and the standing after it
-pub scanned : (pairs : ℕ) {m m' : Medium} {s : Standing} {z : Scan} {r : Result Recovered Fault} → GoesAs z m m' s r → scanned_as r pairs m' s ≡ scanned_on pairs m z
+pub scanned : (pairs : ℕ) {m m' : Medium} {s : Standing} {z : Scan} {r : Result Recovered Fault} → Scanned z m m' s r → scanned_as r pairs m' s ≡ scanned_on pairs m z
 scanned pairs e = rw (e.answer, e.device, e.books) refl
 
 -- what an opening gives, from the kinds that the books answer

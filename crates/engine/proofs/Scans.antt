@@ -5,7 +5,7 @@ use Rattle.instruction.specs.declared.Instruction.{Instruction}
 use Rattle.rulebook.specs.Rules.{Rulebook, Standing, effect}
 use Rattle.device.specs.Medium.{Medium}
 use Rattle.engine.specs.declared.engine.Recovered.{Recovered}
-use Rattle.engine.specs.Recovery.{with_calls, drained, entry_answer, spent_by, leads_to, turn, ended, Scan, scan, GoesAs}
+use Rattle.engine.specs.Recovery.{with_calls, drained, entry_answer, spent_by, leads_to, turn, ended, Scan, scan, Scanned}
 
 scan-none : (h : Rulebook) (m : Medium) (k : ℕ) (s : Standing) (last : Option Instruction) → scan h 0 m k s last ≡ ended m k s last
 unfolding scan
@@ -14,7 +14,7 @@ scan-none h m k s last = refl
 scan-more : (h : Rulebook) (n : ℕ) (m : Medium) (k : ℕ) (s : Standing) (last : Option Instruction)
     → scan h (n + 1) m k s last ≡ turn (entry_answer h m s k) m k s last (λ x. scan h n (drained 2 m) (k + 1) (effect s x) (Some x))
 unfolding scan
-scan-more h n m k s last = rw add-one refl
+scan-more h n m k s last = rw (add-one n) refl
 
 -- the recovery of m₀ from s₀ on stands before entry k, with this found, at the device m and the standing s
 pub record Turn (h : Rulebook) (pairs : ℕ) (m₀ : Medium) (s₀ : Standing) (k : ℕ) (found : Recovered) (m : Medium) (s : Standing) : Type 0 where
@@ -32,19 +32,19 @@ module _ {h : Rulebook} {pairs : ℕ} {m₀ : Medium} {s₀ : Standing} {k : ℕ
   abbrev onward : Instruction → Scan
   onward x = scan h (pairs - (k + 1)) (drained 2 m) (k + 1) (effect s x) (Some x)
 
-  goes : {r : Result Recovered Fault} {m' : Medium} {s' : Standing} (n : ℕ) → scan h pairs m₀ 0 s₀ None ≡ record { outcome = r; left = n; standing = s' } → m' ≡ with_calls n m
-      → GoesAs (scan h pairs m₀ 0 s₀ None) m₀ m' s' r
-  goes n e em = rw e (record { answer = refl; device = em ∙ ap (with_calls n) t.medium; books = refl })
+  as-scanned : {r : Result Recovered Fault} {m' : Medium} {s' : Standing} (n : ℕ) → scan h pairs m₀ 0 s₀ None ≡ record { outcome = r; left = n; standing = s' } → m' ≡ with_calls n m
+      → Scanned (scan h pairs m₀ 0 s₀ None) m₀ m' s' r
+  as-scanned n e em = rw e (record { answer = refl; device = em ∙ ap (with_calls n) t.medium; books = refl })
 
   -- this found, where it ends
   found-so-far : (m' : Medium) → ended m' k s found.last ≡ record { outcome = Ok found; left = m'.left; standing = s }
   found-so-far m' = ap (λ j. ended m' j s found.last) (sym t.counted)
 
   -- all entries are used
-  pub all-read : pairs ≤ k → GoesAs (scan h pairs m₀ 0 s₀ None) m₀ m s (Ok found)
+  pub all-read : pairs ≤ k → Scanned (scan h pairs m₀ 0 s₀ None) m₀ m s (Ok found)
   all-read l =
       let e : pairs - k ≡ 0 = omega arith in
-      goes m.left (t.same ∙ ap (λ n. scan h n m k s found.last) e ∙ scan-none h m k s found.last ∙ found-so-far m) refl
+      as-scanned m.left (t.same ∙ ap (λ n. scan h n m k s found.last) e ∙ scan-none h m k s found.last ∙ found-so-far m) refl
 
   turned : k < pairs → (r : Result (Option Instruction) Fault) → r ≡ entry_answer h m s k → scan h pairs m₀ 0 s₀ None ≡ turn r m k s found.last onward
   turned l r is =
@@ -53,12 +53,12 @@ module _ {h : Rulebook} {pairs : ℕ} {m₀ : Medium} {s₀ : Standing} {k : ℕ
 
   module _ (l : k < pairs) {m' : Medium} {s' : Standing} where
     -- the mark of entry k is not good
-    pub mark-ends : EntryRead h k m s (Ok None) m' s' → GoesAs (scan h pairs m₀ 0 s₀ None) m₀ m' s' (Ok found)
-    mark-ends e = rw e.books (goes (m.left - 1) (turned l (Ok None) e.answer ∙ found-so-far (drained 1 m)) e.after)
+    pub mark-ends : EntryRead h k m s (Ok None) m' s' → Scanned (scan h pairs m₀ 0 s₀ None) m₀ m' s' (Ok found)
+    mark-ends e = rw e.books (as-scanned (m.left - 1) (turned l (Ok None) e.answer ∙ found-so-far (drained 1 m)) e.after)
 
     -- entry k is refused
-    pub entry-refused : (f : Fault) → EntryRead h k m s (Err f) m' s' → GoesAs (scan h pairs m₀ 0 s₀ None) m₀ m' s' (Err f)
-    entry-refused f e = rw e.books (goes (m.left - 2) (turned l (Err f) e.answer) e.after)
+    pub entry-refused : (f : Fault) → EntryRead h k m s (Err f) m' s' → Scanned (scan h pairs m₀ 0 s₀ None) m₀ m' s' (Err f)
+    entry-refused f e = rw e.books (as-scanned (m.left - 2) (turned l (Err f) e.answer) e.after)
 
     pub next-turn : (x : Instruction) → EntryRead h k m s (Ok (Some x)) m' s' → Turn h pairs m₀ s₀ (k + 1) (record { count = k + 1; last = Some x }) m' s'
     next-turn x e =

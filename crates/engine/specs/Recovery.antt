@@ -90,8 +90,8 @@ unfoldable pub scan : Rulebook → ℕ → Medium → ℕ → Standing → Optio
 scan h zero m k s last = ended m k s last
 scan h (suc n) m k s last = turn (entry_answer h m s k) m k s last (λ x. scan h n (drained 2 m) (k + 1) (effect s x) (Some x))
 
--- a recovery that goes as z says: what it answers, and the device and the books and trades after it
-pub record GoesAs (z : Scan) (before after : Medium) (s : Standing) (r : Result Recovered Fault) : Type 0 where
+-- a recovery answers what z says, and leaves the device and the books and trades so
+pub record Scanned (z : Scan) (before after : Medium) (s : Standing) (r : Result Recovered Fault) : Type 0 where
   pub answer : r ≡ z.outcome
   pub device : after ≡ with_calls z.left before
   pub books : s ≡ z.standing

@@ -3,7 +3,7 @@ ghost use Rattle.std.specs.Prelude.{◌≡◌, ℕ, ◌+◌, ◌-◌, ◌*◌, �
 ghost use Rattle.rulebook.specs.Rules.{empty};
 ghost use Rattle.ledger.specs.View.{rulebook, standing_of};
 ghost use Rattle.engine.specs.Opening.{header_answer, after_header, Fits, refused_as, opened_on, opened};
-ghost use Rattle.engine.specs.Recovery.{drained, mark_answer, record_answer, entry_answer, spent_by, leads_to, scan, GoesAs};
+ghost use Rattle.engine.specs.Recovery.{drained, mark_answer, record_answer, entry_answer, spent_by, leads_to, scan, Scanned};
 ghost use Rattle.engine.specs.View.{view};
 
 use crate::engine::{Engine, Mode, Recovered};
@@ -51,8 +51,8 @@ fn replay_entry<D: Device, R: Book, C: Book>(
 ) -> Result<Option<Instruction>, Fault>
     requires small { entry < 32767 }
     requires within { 2 + 2 * entry < (D.medium device.old).size }
-    ensures answer { result
-        ≡ entry_answer (rulebook R.fixed C.fixed) (D.medium device.old) (standing_of ledger.old) entry }
+    ensures answer { result ≡ entry_answer (rulebook R.fixed C.fixed)
+        (D.medium device.old) (standing_of ledger.old) entry }
     ensures after { D.medium device.new ≡ drained (spent_by result) (D.medium device.old) }
     ensures books { standing_of ledger.new ≡ leads_to (standing_of ledger.old) result }
 {
@@ -72,7 +72,7 @@ fn replay<D: Device, R: Book, C: Book>(
 ) -> Result<Recovered, Fault>
     requires few { pairs ≤ 32767 }
     requires within { 1 + 2 * pairs ≤ (D.medium device.old).size }
-    ensures scanned { GoesAs
+    ensures scanned { Scanned
         (scan (rulebook R.fixed C.fixed) pairs (D.medium device.old) 0 (standing_of ledger.old) None)
         (D.medium device.old) (D.medium device.new) (standing_of ledger.new) result }
     ensures within { IfOk result (λ found. found.count ≤ pairs) }
@@ -126,7 +126,8 @@ impl<D: Device, R: Book, C: Book> Engine<D, R, C> {
     fn recovered(mut device: D, mut ledger: Ledger<R, C>, pairs: u32) -> Self
         requires fits { Fits pairs (D.medium device) }
         requires empty { standing_of ledger ≡ empty }
-        ensures { view D.medium result ≡ opened_on (rulebook R.fixed C.fixed) (D.medium device) (Ok pairs) }
+        ensures { view D.medium result
+            ≡ opened_on (rulebook R.fixed C.fixed) (D.medium device) (Ok pairs) }
     {
         let found = match replay(&mut device, &mut ledger, pairs) {
             Ok(found) => found,

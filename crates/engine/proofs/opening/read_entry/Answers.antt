@@ -1,7 +1,7 @@
-use Rattle.std.proofs.Common.{arith}
+use Rattle.std.proofs.Common.{arith, rules}
 use Rattle.std.proofs.lemmas.Result.{err_from_is_err_and}
 use Rattle.std.proofs.lemmas.Grind.{common_steps}
-use Rattle.engine.proofs.Entries.{mapped}
+use Rattle.engine.proofs.Errors.{mapped}
 use Rattle.engine.proofs.opening.read_entry.Goals as goal
 
 pub returns-in_err-map_err-clause-answer : goal.returns-in_err-map_err-clause-answer
@@ -10,3 +10,9 @@ returns-in_err-map_err-clause-answer g c =
     let q = mapped c.read.result c.in_err-map_err.field-0.0 c.in_err-map_err.ensures.cases in
     let e = c.read.ensures.answer in
     grind (arith, common_steps, p, q, e)
+
+pub returns-clause-answer : goal.returns-clause-answer
+returns-clause-answer g c = search rules
+
+pub returns-clause-after : goal.returns-clause-after
+returns-clause-after g c = search rules

@@ -1,7 +1,10 @@
 use Rattle.std.proofs.Common.{◌≡◌, Ok, sym, ◌∙◌, rules}
 use Rattle.std.proofs.lemmas.Result.{err_from_is_err_and}
+use Rattle.rulebook.specs.Rules.{answer}
+use Rattle.rulebook.proofs.Givens.{accepted}
 use Rattle.ledger.specs.View.{rulebook, standing_of}
-use Rattle.engine.proofs.Entries.{mapped, carried}
+use Rattle.ledger.proofs.Carried.{accepts}
+use Rattle.engine.proofs.Errors.{mapped}
 use Rattle.engine.proofs.opening.replay_entry.Goals as goal
 
 pub returns-in_err-map_err-clause-books : goal.returns-in_err-map_err-clause-books
@@ -11,7 +14,11 @@ returns-in_err-map_err-clause-books g c =
     let e = rw q.1 at c.instruct.ensures in
     rw p.1 e.kept
 
+-- an instruction that the rules accept takes effect
 pub returns-clause-books : goal.returns-clause-books
 returns-clause-books g c =
+    let h = rulebook g.R.Book.fixed g.C.Book.fixed in
+    let s = standing_of c.args.ledger.now in
+    let x = c.in_ok-x.x in
     let is : c.instruct.result ≡ Ok tt = search rules in
-    carried (rulebook g.R.Book.fixed g.C.Book.fixed) (standing_of c.args.ledger.now) _ c.in_ok-x.x (sym is ∙ c.instruct.ensures.answer) c.instruct.ensures.after.after
+    c.instruct.ensures.after.after ∙ accepted h s x (accepts x (answer h s x) (sym c.instruct.ensures.answer ∙ is))
