@@ -77,17 +77,20 @@ fn replay<D: Device, R: Book, C: Book>(
         (D.medium device.old) (D.medium device.new) (standing_of ledger.new) result }
     ensures within { IfOk result (λ found. found.count ≤ pairs) }
 {
-    let mut found = Recovered::default();
-    for entry in 0..pairs {
-        let Some(x) = replay_entry(device, ledger, entry)? else {
-            return Ok(found);
+    let mut done: u32 = 0;
+    let mut last = None;
+    // Not a `for`: the loop gives the count of entries, and breaks with it at the first mark not good.
+    let count = loop {
+        if done >= pairs {
+            break done;
+        }
+        let Some(x) = replay_entry(device, ledger, done)? else {
+            break done;
         };
-        found = Recovered {
-            count: entry + 1,
-            last: Some(x),
-        };
-    }
-    Ok(found)
+        last = Some(x);
+        done += 1;
+    };
+    Ok(Recovered { count, last })
 }
 
 // The number of pairs of the journal on a device, where its header is one for these kinds of books.

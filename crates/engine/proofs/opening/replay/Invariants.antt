@@ -1,7 +1,11 @@
+use Rattle.std.proofs.Common.{◌-◌}
 use Rattle.ledger.specs.View.{rulebook, standing_of}
 use Rattle.engine.proofs.Scans.{Turn}
 use Rattle.engine.proofs.opening.replay.Given as goal
 
-abbrev pub invariant-loop-entry : goal.invariant-loop-entry
-invariant-loop-entry g l =
-    Turn (rulebook g.R.Book.fixed g.C.Book.fixed) l.pairs (g.D.Device.medium l.initial.device) (standing_of l.initial.ledger) l.entry l.found (g.D.Device.medium l.device) (standing_of l.ledger)
+abbrev pub invariant-loop-done : goal.invariant-loop-done
+invariant-loop-done g l =
+    Turn (rulebook g.R.Book.fixed g.C.Book.fixed) l.pairs (g.D.Device.medium l.initial.device) (standing_of l.initial.ledger) l.done (record { count = l.done; last = l.last }) (g.D.Device.medium l.device) (standing_of l.ledger)
+
+abbrev pub decreases-loop-done : goal.decreases-loop-done
+decreases-loop-done g l = l.pairs - l.done
