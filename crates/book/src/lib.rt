@@ -31,6 +31,7 @@ pub fn covers(amount: u64, quantity: u64, short: Refusal) -> Result<(), Refusal>
     Ok(())
 }
 
+// Its calls name an account, an item and a quantity each, as the rules do; no two of them are always one thing.
 pub trait Book {
     // what each account has of each item
     ghost holdings: { Self → Holdings };
@@ -75,7 +76,7 @@ pub trait Book {
     fn items(&self) -> u16
         ensures { result ≡ fixed.items };
 
-    // The kind byte.
+    // The kind byte, and not an enum of kinds: anyone may write a book of a kind of its own.
     fn kind(&self) -> u8
         ensures { result ≡ fixed.code };
 

@@ -117,7 +117,7 @@ impl<const ROW: usize> Imaged<ROW> {
         ensures image { self.new.image ≡ self.old.image }
     {
         if self.left == 0 {
-            return Err(Fault::plain(Refusal::NoCalls));
+            return Err(Refusal::NoCalls.into());
         }
         self.left -= 1;
         Ok(())

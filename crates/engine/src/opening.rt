@@ -14,6 +14,8 @@ use instruction::Instruction;
 use journal::{Header, is_good_mark, read_record};
 use ledger::Ledger;
 
+// What is asked of an entry below speaks of the device that it lies on, so no type of an entry could carry it.
+
 // Whether the mark of an entry is good: one that is unreadable is not.
 fn read_mark<D: Device>(device: &mut D, entry: u32) -> Result<bool, Fault>
     requires small { entry < 32767 }
@@ -40,7 +42,7 @@ fn read_entry<D: Device>(device: &mut D, entry: u32) -> Result<Instruction, Faul
     device
         .read(1 + 2 * entry, &mut block)
         .map_err(|fault| fault.in_entry(entry))?;
-    read_record(&block, entry).map_err(|refusal| Fault::plain(refusal).in_entry(entry))
+    read_record(&block, entry).map_err(|refusal| Fault::from(refusal).in_entry(entry))
 }
 
 // Reads an entry and carries out its instruction; None where its mark is not good, which ends the list.

@@ -32,7 +32,7 @@ impl Verdict {
     }
 }
 
-// A slip tells nothing where the opening was refused.
+// A slip tells nothing where the opening was refused. That it was spent is a flag, since its drop demands it.
 pub struct Slip {
     holds: Option<Contents>,
     spent: bool,

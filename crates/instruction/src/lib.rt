@@ -52,7 +52,7 @@ impl TryFrom<u8> for Kind {
     }
 }
 
-// The fields as they come, whether or not the kind is known or uses them: the rules judge that.
+// The fields as they come, whether or not the kind is known or uses them: the rules judge that, so the kind is its byte.
 // In an Enter `account` is the seller and `counterparty` the buyer.
 #[derive(Clone, Copy, Debug, Default, PartialEq, Eq)]
 pub struct Instruction {
@@ -66,6 +66,7 @@ pub struct Instruction {
     pub amount: u64,
 }
 
+// Both ways are methods, by names that say bytes, as of the library's numbers.
 impl Instruction {
     pub fn to_bytes(self) -> [u8; 32]
         ensures value { result ≡ bytes_of self }

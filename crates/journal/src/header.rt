@@ -12,11 +12,13 @@ pub const MOST_PAIRS: u32 = 32767;
 
 #[derive(Clone, Copy, Debug, PartialEq, Eq)]
 pub struct Header {
+    // the kinds of the books, which are bytes
     pub register: u8,
     pub cash: u8,
     pub pairs: u32,
 }
 
+// Both ways are methods, by names that say what the bytes are.
 impl Header {
     pub fn to_block(self) -> [u8; 256]
         ensures { result ≡ header_bytes self }

@@ -4,7 +4,8 @@
 ghost use Rattle.std.specs.Prelude.{◌≡◌, ℕ};
 ghost use Rattle.little_endian.specs.Little.{le, bytes, EveryWidth};
 
-// Numbers of N bytes. Reading undoes writing and writing undoes reading, for all widths together.
+// Numbers of N bytes. Reading undoes writing and writing undoes reading, for all widths together. Each `impl` says the
+// clauses again, since the check cannot give a method those of a trait with a const parameter yet.
 pub trait LittleEndian<const N: usize>: Copy {
     // the number that a value is
     ghost value: { Self → ℕ };

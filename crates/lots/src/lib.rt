@@ -102,6 +102,7 @@ impl Book for Lots {
         Ok(())
     }
 
+    // The two questions differ in the field that they give: one function over a field would be no plainer.
     fn free(&self, account: u16, item: u16) -> Result<u64, Refusal> {
         self.held(account, item).map(|held| held.free)
     }

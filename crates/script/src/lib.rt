@@ -122,7 +122,7 @@ impl<'a> Tokens<'a> {
     }
 }
 
-// How many digits a text begins with.
+// How many digits a text begins with. `line_length` below differs in its test, which is all that either says.
 fn digit_count(s: &[u8]) -> usize
     ensures value { result ≡ prefix_len is_digit s.now }
     ensures within { result ≤ length s.now }

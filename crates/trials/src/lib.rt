@@ -15,6 +15,7 @@ use instruction::{Instruction, Kind};
 use ledger::Ledger;
 use lots::Lots;
 
+// The answers by their numbers, as the known results are given.
 #[derive(Drop)]
 pub struct Outcomes {
     pub block_of_nothing: u8,
