@@ -116,7 +116,7 @@ impl<R: Book, C: Book> Parts<R, C> {
     {
         let kind = Kind::try_from(x.kind)?;
         self.ruling(kind, x)
-            .map_err(|refusal| about(x, Fault::plain(refusal)))?;
+            .map_err(|refusal| about(x, refusal.into()))?;
         Ok(kind)
     }
 }
