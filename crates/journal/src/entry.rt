@@ -1,4 +1,5 @@
-// An entry of a journal: its record, which says an instruction, and its mark, which says that the record is complete.
+// An entry of a journal: its record, which says an instruction, and its mark, which says that the record is complete. Both
+// are made and read by functions, since the entry's number goes into each.
 ghost use Rattle.std.specs.Prelude.{◌≡◌};
 ghost use Rattle.journal.specs.Blocks.{mark_bytes, is_mark, record_bytes, record_in};
 ghost use Rattle.journal.specs.Reading.{ReadsMark, ReadsRecord};
