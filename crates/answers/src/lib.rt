@@ -108,6 +108,7 @@ pub struct Fault {
     pub rule: Option<Refusal>,
 }
 
+// Each of these sets the one field that its name says, so none could be made of another.
 impl Fault {
     // A refusal that concerns no block, entry or trade.
     pub fn plain(refusal: Refusal) -> Fault

@@ -31,7 +31,7 @@ impl Balances {
         }
     }
 
-    // What an account has of an item, where the book has both.
+    // What an account has of an item, where the book has both: each book tests for its own number of items.
     fn held(&self, account: u16, item: u16) -> Result<Holding, Refusal>
         ensures { result ≡ asked balances_kind (at self.now.rows) account item }
     {

@@ -31,7 +31,7 @@ pub fn covers(amount: u64, quantity: u64, short: Refusal) -> Result<(), Refusal>
     Ok(())
 }
 
-// Its calls name an account, an item and a quantity each, as the rules do; no two of them are always one thing.
+// Its calls take an account, an item and a quantity, as the rules state them; a pair would be taken apart again in each body.
 pub trait Book {
     // what each account has of each item
     ghost holdings: { Self → Holdings };
@@ -107,6 +107,7 @@ pub trait Book {
         if item >= self.items() {
             return Err(Refusal::NoItem);
         }
+        // Not a `sum`: of a sum of results a proof could not tell when it fails.
         let mut sum = 0u64;
         for account in 0..ACCOUNTS {
             let held = self.holding(account, item)?;

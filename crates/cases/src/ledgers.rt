@@ -36,18 +36,10 @@ fn give_all<R: Book, C: Book>(
     Ok(())
 }
 
-// An instruction with 0 in each field.
-fn blank(kind: Kind) -> Instruction {
-    Instruction {
-        kind: kind.into(),
-        ..Instruction::default()
-    }
-}
-
 fn on_trade(kind: Kind, trade: u32) -> Instruction {
     Instruction {
         trade,
-        ..blank(kind)
+        ..Instruction::of_kind(kind)
     }
 }
 
@@ -87,15 +79,15 @@ fn stray_credits<R: Book, C: Book>(
 ) -> anyhow::Result<()> {
     let issue_of_amount = Instruction {
         amount: 1,
-        ..blank(Kind::Issue)
+        ..Instruction::of_kind(Kind::Issue)
     };
     let pay_in_of_item = Instruction {
         item: 1,
-        ..blank(Kind::PayIn)
+        ..Instruction::of_kind(Kind::PayIn)
     };
     let pay_in_of_quantity = Instruction {
         quantity: 1,
-        ..blank(Kind::PayIn)
+        ..Instruction::of_kind(Kind::PayIn)
     };
     give_all(
         rt,
@@ -147,12 +139,12 @@ fn settlement<R: Book, C: Book>(rt: &HostRuntime, ledger: &mut Ledger<R, C>) -> 
     let issue = Instruction {
         account: 1,
         quantity: 1,
-        ..blank(Kind::Issue)
+        ..Instruction::of_kind(Kind::Issue)
     };
     let pay_in = Instruction {
         account: 2,
         amount: 1,
-        ..blank(Kind::PayIn)
+        ..Instruction::of_kind(Kind::PayIn)
     };
     let enter = Instruction {
         account: 1,

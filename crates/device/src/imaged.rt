@@ -1,7 +1,7 @@
 // A device over an image, in rows of one width: what every such device does alike.
 ghost use Rattle.answers.specs.declared.Refusal.TheVariants.{NoCalls};
 ghost use Rattle.answers.specs.Faults.{plain};
-ghost use Rattle.std.specs.Prelude.{◌≡◌, ℕ, ◌-◌, ◌^◌, ◌<◌, ◌≤◌, if◌then◌else◌, Bool, List, length, Some, None, Option, IsSome, MatchOption, ◌↔◌, ◌==◌};
+ghost use Rattle.std.specs.Prelude.{◌≡◌, ℕ, ◌-◌, ◌^◌, ◌<◌, ◌≤◌, if◌then◌else◌, Bool, List, length, Some, None, Option, IsSome, IsNone, MatchOption, ◌↔◌, ◌==◌};
 ghost use Rattle.device.specs.Bytes.{Bytes};
 ghost use Rattle.device.specs.Calls.{Read, Write, if_ok};
 ghost use Rattle.device.specs.Images.{blocks, held, imaged, put, row};
@@ -36,6 +36,7 @@ pub trait Layout<const ROW: usize> {
 #[derive(Drop)]
 pub struct Imaged<const ROW: usize> {
     pub image: Vec<u8>,
+    // how many blocks the image has, counted once
     pub size: u32,
     pub left: u32,
     ghost sized: { size ≡ blocks ROW image.items },
@@ -43,9 +44,11 @@ pub struct Imaged<const ROW: usize> {
     ghost bytes: { Bytes image.items },
 }
 
-// The bytes that a row holds behind its first byte, if that says that the block is readable.
+// The bytes that a row holds behind its first byte, if that says that the block is readable. A row of any width of 257 bytes
+// or more serves, and a shorter one holds nothing.
 pub fn held_bytes(row: &[u8]) -> Option<&[u8; BLOCK]>
-    ensures { 257 ≤ length row.now → MatchOption result (held row.now ≡ None) (λ bytes. held row.now ≡ Some bytes.now) }
+    ensures value { 257 ≤ length row.now → MatchOption result (held row.now ≡ None) (λ bytes. held row.now ≡ Some bytes.now) }
+    ensures short { length row.now < 257 → IsNone result }
 {
     let (flag, bytes) = row.split_first()?;
     if *flag == 0 {

@@ -9,6 +9,7 @@ use simulated::Simulated;
 use std::alloc::{AllocError, Global};
 
 // A block of an image: its kept bytes are all alike, and so are its newer ones, which only a simulated device has.
+// Flags are bytes here, as an image has them.
 #[derive(Clone, Copy)]
 pub struct Row {
     pub flag: u8,

@@ -6,7 +6,8 @@ ghost use Rattle.engine.specs.Opening.{header_answer, after_header, Fits, refuse
 ghost use Rattle.engine.specs.Recovery.{drained, mark_answer, record_answer, entry_answer, spent_by, leads_to, scan, Scanned};
 ghost use Rattle.engine.specs.View.{view};
 
-use crate::engine::{Engine, Mode, Recovered};
+pub use crate::engine::Recovered;
+use crate::engine::{Engine, Mode};
 use answers::{Fault, Refusal};
 use book::Book;
 use device::{BLOCK, Device};
@@ -14,7 +15,8 @@ use instruction::Instruction;
 use journal::{Header, is_good_mark, read_record};
 use ledger::Ledger;
 
-// What is asked of an entry below speaks of the device that it lies on, so no type of an entry could carry it.
+// What is asked of an entry below speaks of the device that it lies on. A type for that its number is small would be no
+// plainer, since it would leave the other fact.
 
 // Whether the mark of an entry is good: one that is unreadable is not.
 fn read_mark<D: Device>(device: &mut D, entry: u32) -> Result<bool, Fault>
@@ -81,7 +83,7 @@ fn replay<D: Device, R: Book, C: Book>(
 {
     let mut done: u32 = 0;
     let mut last = None;
-    // Not a `for`: the loop gives the count of entries, and breaks with it at the first mark not good.
+    // A loop whose value is the count found, as this repository has it: it breaks with it at the first mark not good.
     let count = loop {
         if done >= pairs {
             break done;

@@ -1,6 +1,7 @@
 // The examination program: reads a script from standard input and prints its key.
 #![tactic(auto)]
 
+use anyhow::anyhow;
 use balances::Balances;
 use examination::examine;
 use ledger::Ledger;
@@ -14,7 +15,9 @@ fn main(rt: HostRuntime) -> anyhow::Result<()> {
     let mut script = Vec::new(heap);
     rt.stdin().take(ENOUGH).read_to_end(&mut script)?;
     let mut ledger = Ledger::new(Balances::new(), Balances::new());
-    let key = examine(heap, &mut ledger, script.as_slice())?;
+    let key = examine(heap, &mut ledger, script.as_slice()).map_err(|_| anyhow!(
+        "no memory for the key"
+    ))?;
     print!(rt; "{key}")?;
     Ok(())
 }

@@ -7,9 +7,8 @@ use Rattle.rulebook.specs.Words.{standing_after}
 use Rattle.std.proofs.lemmas.List.{append-nil, take_all}
 use Rattle.script.specs.Requests.{request_in}
 use Rattle.script.specs.Feeds.{lines_of}
-use Rattle.examination.specs.declared.stop.Stop.TheVariants.{NoMemory}
 use Rattle.examination.specs.Replies.{Answer, reply, moved}
-use Rattle.examination.specs.Key.{answers_to, end_of, tally, KeyLaw, Keyed, Stopped}
+use Rattle.examination.specs.Key.{answers_to, end_of, tally, KeyLaw, Keyed, CutShort}
 use Rattle.examination.proofs.Keys.{answers-count, ends, balanced, key-law}
 
 -- how far a script has come: these answers are written, the ledger stands at s, and the rest is still to be read
@@ -83,6 +82,6 @@ module _ (h : Rulebook) where
   some_left (l ∷ ls) zero x xs e = omega arith
   some_left (l ∷ ls) (suc n) x xs e = let z = some_left ls n x xs e in omega arith
 
-  pub going-stop : (script : List ℕ) (answers : List Answer) (before s : Standing) (rest l : List ℕ) (ls : List (List ℕ)) → Going h script answers s rest → lines_of rest ≡ l ∷ ls
-      → length script ≤ 65536 → Stopped h before s script NoMemory
-  going-stop script answers before s rest l ls g e short = (short, (g.line, some_left (lines_of script) g.line l ls (sym e ∙ g.left), g.stands))
+  pub going-stop : (script : List ℕ) (answers : List Answer) (s : Standing) (rest l : List ℕ) (ls : List (List ℕ)) → Going h script answers s rest → lines_of rest ≡ l ∷ ls
+      → length script ≤ 65536 → CutShort h s script
+  going-stop script answers s rest l ls g e short = (short, (g.line, some_left (lines_of script) g.line l ls (sym e ∙ g.left), g.stands))

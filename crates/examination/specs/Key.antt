@@ -69,8 +69,11 @@ pub record Keyed (h : Rulebook) (after : Standing) (script : List ℕ) (answers 
   pub books : (d : Side) (a i : ℕ) → Balanced d (tally (lines_of script) answers) a i ((after.book d).free a i) ((after.book d).blocked a i)
   pub stands : after ≡ standing_after (tally (lines_of script) answers)
 
--- A script that got none: too long, and nothing was done; or no memory was found for the answer to line n + 1, and
--- the ledger stands after the n lines before it.
+-- No memory was found for the answer to line n + 1, and the ledger stands after the n lines before it.
+abbrev pub CutShort : Rulebook → Standing → List ℕ → Type 0
+CutShort h after script = (length script ≤ 65536) × ((n : ℕ) × (n < length (lines_of script)) × (after ≡ end_of h empty (take n (lines_of script))))
+
+-- A script that got none: too long, and nothing was done; or cut short for want of memory.
 abbrev pub Stopped : Rulebook → Standing → Standing → List ℕ → Stop → Type 0
 Stopped h before after script (Refused r) = (65536 < length script) × (r ≡ InputTooLong) × (after ≡ before)
-Stopped h before after script NoMemory = (length script ≤ 65536) × ((n : ℕ) × (n < length (lines_of script)) × (after ≡ end_of h empty (take n (lines_of script))))
+Stopped h before after script (NoMemory e) = CutShort h after script

@@ -1,7 +1,7 @@
 // An examination: a script of lines is answered one after another over a ledger, and the answers are the key.
 #![tactic(auto)]
 
-ghost use Rattle.std.specs.Prelude.{◌≡◌, MatchResult, string_bytes};
+ghost use Rattle.std.specs.Prelude.{◌≡◌, IfOk, MatchResult, string_bytes};
 ghost use Rattle.ledger.specs.View.{rulebook, standing_of};
 ghost use Rattle.script.specs.Requests.{request_in};
 ghost use Rattle.examination.specs.Replies.{reply, moved, KeptUnlessDone};
@@ -15,7 +15,7 @@ use answers::{Fault, Refusal};
 use book::{Book, Holding};
 use ledger::Ledger;
 use script::{Lines, Request, read_line};
-use std::alloc::Global;
+use std::alloc::{AllocError, Global};
 pub use stop::Stop;
 use text::{key_text, refusal_text};
 
@@ -76,14 +76,13 @@ pub fn examine<R: Book, C: Book>(
     heap: Global,
     ledger: &mut Ledger<R, C>,
     script: &[u8],
-) -> Result<String, Stop>
-    ensures { MatchResult result
-        (λ text. Printed (rulebook R.fixed C.fixed) (standing_of ledger.old) (standing_of ledger.new) script.now (string_bytes text))
-        (λ stop. stop ≡ Stop.NoMemory) }
+) -> Result<String, AllocError>
+    ensures { IfOk result
+        (λ text. Printed (rulebook R.fixed C.fixed) (standing_of ledger.old) (standing_of ledger.new) script.now (string_bytes text)) }
 {
     match answer_script(heap, ledger, script) {
-        Ok(answers) => Ok(key_text(heap, answers.as_slice())?),
-        Err(Stop::Refused(refusal)) => Ok(refusal_text(heap, refusal)?),
-        Err(Stop::NoMemory) => Err(Stop::NoMemory),
+        Ok(answers) => key_text(heap, answers.as_slice()),
+        Err(Stop::Refused(refusal)) => refusal_text(heap, refusal),
+        Err(Stop::NoMemory(error)) => Err(error),
     }
 }

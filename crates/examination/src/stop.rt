@@ -1,33 +1,20 @@
 // Why a script got no key.
 ghost use Rattle.std.specs.Prelude.{◌≡◌};
-ghost use Rattle.examination.specs.declared.stop.Stop.TheVariants.{Refused, NoMemory};
+ghost use Rattle.examination.specs.declared.stop.Stop.TheVariants.{NoMemory};
 
 use answers::Refusal;
 use std::alloc::AllocError;
-use std::error::Error;
-use std::fmt;
 
-#[derive(Clone, Copy, Debug, PartialEq, Eq)]
+#[derive(Clone, Copy)]
 pub enum Stop {
     Refused(Refusal),
-    NoMemory,
+    NoMemory(AllocError),
 }
 
 impl From<AllocError> for Stop {
-    ghost from_gives = { λ _ stop. stop ≡ NoMemory };
+    ghost from_gives = { λ error stop. stop ≡ NoMemory error };
 
-    fn from(_e: AllocError) -> Stop {
-        Stop::NoMemory
+    fn from(error: AllocError) -> Stop {
+        Stop::NoMemory(error)
     }
 }
-
-impl fmt::Display for Stop {
-    fn fmt<W: fmt::Write>(&self, f: &mut fmt::Formatter<W>) -> fmt::Result {
-        match self {
-            Self::Refused(refusal) => write!(f, "the script is refused: {}", refusal.number()),
-            Self::NoMemory => write!(f, "no memory for the key"),
-        }
-    }
-}
-
-impl Error for Stop {}

@@ -1,4 +1,4 @@
-// The key as text.
+// The key as text. Functions, and no `Display`, since a contract says which bytes each text is.
 ghost use Rattle.std.specs.Prelude.{◌≡◌, IfOk, string_bytes};
 ghost use Rattle.examination.specs.Texts.{line_text, key_text, refused_text};
 

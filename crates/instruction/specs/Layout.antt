@@ -3,7 +3,13 @@ use Rattle.std.specs.Prelude.{◌≡◌, ℕ, ◌^◌, ◌<◌, Bool, cond, ◌&
 use Rattle.little_endian.specs.Little.{le, bytes, part}
 use Rattle.answers.specs.declared.Refusal.{Refusal}
 use Rattle.answers.specs.declared.Refusal.TheVariants.{Malformed}
+use Rattle.instruction.specs.declared.Kind.{Kind}
 use Rattle.instruction.specs.declared.Instruction.{Instruction}
+use Rattle.instruction.specs.Kinds.{code_of}
+
+-- an instruction of a kind, with 0 in each other field
+abbrev pub of_kind : Kind → Instruction
+of_kind k = record { kind = code_of k; account = 0; counterparty = 0; item = 0; currency = 0; trade = 0; quantity = 0; amount = 0 }
 
 -- byte 0 the kind, byte 1 zero, then the account, the counterparty, the item and the currency in two bytes each,
 -- bytes 10 and 11 zero, the trade in four bytes, the quantity and the amount in eight each

@@ -3,7 +3,7 @@
 
 ghost use Rattle.std.specs.Prelude.{◌≡◌, ◌+◌, ◌≤◌, length, Ok};
 ghost use Rattle.instruction.specs.Kinds.{code_of, Decodes, KindsAndCodes};
-ghost use Rattle.instruction.specs.Layout.{bytes_of, instruction_in, field, Reads};
+ghost use Rattle.instruction.specs.Layout.{of_kind, bytes_of, instruction_in, field, Reads};
 
 use answers::Refusal;
 use little_endian::LittleEndian;
@@ -66,8 +66,18 @@ pub struct Instruction {
     pub amount: u64,
 }
 
-// Both ways are methods, by names that say bytes, as of the library's numbers.
 impl Instruction {
+    // An instruction of the kind with 0 in each other field.
+    pub fn of_kind(kind: Kind) -> Instruction
+        ensures { result ≡ of_kind kind }
+    {
+        Instruction {
+            kind: kind.into(),
+            ..Instruction::default()
+        }
+    }
+
+    // This way and back are methods, by names that say bytes, as of the library's numbers. The array shows the layout.
     pub fn to_bytes(self) -> [u8; 32]
         ensures value { result ≡ bytes_of self }
         ensures read_back { instruction_in result ≡ Ok self }
@@ -116,5 +126,5 @@ fn field<T: LittleEndian<N>, const N: usize>(b: &[u8], at: usize) -> T
 {
     let mut bytes = [0; N];
     bytes.copy_from_slice(&b[at..at + N]);
-    T::from_little_endian(bytes)
+    T::from_little_endian(&bytes)
 }

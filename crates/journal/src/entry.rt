@@ -44,10 +44,10 @@ pub fn read_record(block: &[u8; 256], entry: u32) -> Result<Instruction, Refusal
     ensures exact { ReadsRecord entry block.now result }
 {
     let [k0, k1, k2, k3, n0, n1, n2, n3, ..] = block;
-    if u32::from_little_endian([*k0, *k1, *k2, *k3]) != entry {
+    if u32::from_little_endian(&[*k0, *k1, *k2, *k3]) != entry {
         return Err(Refusal::Malformed);
     }
-    if u32::from_little_endian([*n0, *n1, *n2, *n3]) != 1 {
+    if u32::from_little_endian(&[*n0, *n1, *n2, *n3]) != 1 {
         return Err(Refusal::Malformed);
     }
     if !all_zero(&block[40..]) {

@@ -8,11 +8,11 @@ use answers::Refusal;
 use little_endian::LittleEndian;
 
 // As many pairs of a record and a mark as a journal may have.
-pub const MOST_PAIRS: u32 = 32767;
+const MOST_PAIRS: u32 = 32767;
 
 #[derive(Clone, Copy, Debug, PartialEq, Eq)]
 pub struct Header {
-    // the kinds of the books, which are bytes
+    // the kinds of the books: each is its own byte, since anyone may write another book
     pub register: u8,
     pub cash: u8,
     pub pairs: u32,
@@ -44,7 +44,7 @@ impl Header {
         if *edition != 1 || *books != 2 {
             return Err(Refusal::NotAHeader);
         }
-        let pairs = u32::from_little_endian([*n0, *n1, *n2, *n3]);
+        let pairs = u32::from_little_endian(&[*n0, *n1, *n2, *n3]);
         if pairs < 1 || pairs > MOST_PAIRS {
             return Err(Refusal::NotAHeader);
         }

@@ -43,24 +43,32 @@ impl<R: Book, C: Book> Parts<R, C> {
             quantity,
             amount,
         } = trade.terms;
-        let _ = match kind {
-            Kind::Issue => self.register.credit(x.account, x.item, x.quantity),
-            Kind::PayIn => self.cash.credit(x.account, x.currency, x.amount),
-            Kind::Enter => Ok(()),
-            Kind::Earmark => self.register.block(seller, item, quantity),
-            Kind::Fund => self.cash.block(buyer, currency, amount),
+        match kind {
+            Kind::Issue => {
+                let _ = self.register.credit(x.account, x.item, x.quantity);
+            }
+            Kind::PayIn => {
+                let _ = self.cash.credit(x.account, x.currency, x.amount);
+            }
+            Kind::Earmark => {
+                let _ = self.register.block(seller, item, quantity);
+            }
+            Kind::Fund => {
+                let _ = self.cash.block(buyer, currency, amount);
+            }
             Kind::Settle => {
                 let _ = self.register.transfer(seller, buyer, item, quantity);
-                self.cash.transfer(buyer, seller, currency, amount)
+                let _ = self.cash.transfer(buyer, seller, currency, amount);
             }
-            Kind::Free => match trade.state {
-                State::Earmarked => self.register.release(seller, item, quantity),
-                State::Funded => {
+            Kind::Free => {
+                if matches!(trade.state, State::Earmarked | State::Funded) {
                     let _ = self.register.release(seller, item, quantity);
-                    self.cash.release(buyer, currency, amount)
                 }
-                _ => Ok(()),
-            },
-        };
+                if matches!(trade.state, State::Funded) {
+                    let _ = self.cash.release(buyer, currency, amount);
+                }
+            }
+            Kind::Enter => {}
+        }
     }
 }

@@ -87,6 +87,7 @@ impl<R: Book, C: Book> Parts<R, C> {
                 self.trades.startable(kind, Refusal::EverEntered, x.trade)?;
                 self.terms_ruling(x)
             }
+            // An Earmark and a Fund differ in the book, whose type is its own, and in the side of the terms.
             Kind::Earmark => {
                 let terms = self
                     .trades

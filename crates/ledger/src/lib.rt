@@ -103,7 +103,7 @@ impl<R: Book, C: Book> Ledger<R, C> {
         Ok(self.parts.trades.at(number).state)
     }
 
-    // What an account has of an item of the register.
+    // What an account has of an item of the register. The two books are of two types, so each question goes to one of them.
     pub fn securities(&self, account: u16, item: u16) -> Result<Holding, Refusal>
         ensures { result
             ≡ holding_question (rulebook R.fixed C.fixed) (standing_of self.now) in_securities account item }

@@ -48,7 +48,7 @@ impl Lots {
         }
     }
 
-    // What an account has of an item, where the book has both.
+    // What an account has of an item, where the book has both: each book tests for its own number of items.
     fn held(&self, account: u16, item: u16) -> Result<Holding, Refusal>
         ensures { result ≡ asked lots_kind (holding_at (meaning self.now)) account item }
     {

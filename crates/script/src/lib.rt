@@ -25,10 +25,11 @@ pub enum Token<'a> {
     Digits(&'a [u8]),
     Space,
     Other,
+    // A case like the others: what follows a field is asked for as a token, and may be the end.
     End,
 }
 
-// The types of a field's number. The width of a field is that of its type.
+// The types of a field's number. The width of a field is that of its type, and all that an `impl` says is what is most.
 trait Width: TryFrom<u64, Error = TryFromIntError> {
     // The most that the type holds.
     ghost most: { ℕ };
@@ -262,13 +263,13 @@ fn read_instruction(kind: Kind, tokens: &mut Tokens) -> Option<Instruction>
             account: tokens.field()?,
             item: tokens.field()?,
             quantity: tokens.field()?,
-            ..blank(kind)
+            ..Instruction::of_kind(kind)
         },
         Kind::PayIn => Instruction {
             account: tokens.field()?,
             currency: tokens.field()?,
             amount: tokens.field()?,
-            ..blank(kind)
+            ..Instruction::of_kind(kind)
         },
         Kind::Enter => Instruction {
             account: tokens.field()?,
@@ -278,24 +279,14 @@ fn read_instruction(kind: Kind, tokens: &mut Tokens) -> Option<Instruction>
             trade: tokens.field()?,
             quantity: tokens.field()?,
             amount: tokens.field()?,
-            ..blank(kind)
+            ..Instruction::of_kind(kind)
         },
         Kind::Earmark | Kind::Fund | Kind::Settle | Kind::Free => Instruction {
             trade: tokens.field()?,
-            ..blank(kind)
+            ..Instruction::of_kind(kind)
         },
     };
     Some(instruction)
-}
-
-// An instruction of the kind with 0 in each other field.
-fn blank(kind: Kind) -> Instruction
-    ensures { result ≡ on_trade kind 0 }
-{
-    Instruction {
-        kind: kind.into(),
-        ..Instruction::default()
-    }
 }
 
 fn read_position(tokens: &mut Tokens) -> Option<Position>

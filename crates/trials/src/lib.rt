@@ -56,9 +56,8 @@ fn earmark_bytes() -> [u8; 32]
     ensures { result ≡ earmark7 }
 {
     let x = Instruction {
-        kind: Kind::Earmark.into(),
         trade: 7,
-        ..Instruction::default()
+        ..Instruction::of_kind(Kind::Earmark)
     };
     x.to_bytes()
 }
@@ -68,14 +67,14 @@ fn same_parties() -> u8
 {
     let ledger = Ledger::new(Balances::new(), Balances::new());
     let x = Instruction {
-        kind: Kind::Enter.into(),
         account: 70,
         counterparty: 70,
         trade: 7,
         quantity: 100,
         amount: 5000,
-        ..Instruction::default()
+        ..Instruction::of_kind(Kind::Enter)
     };
+    // Of a fault, where `answer_number` takes a refusal.
     match ledger.judge(&x) {
         Ok(()) => 0,
         Err(fault) => fault.number(),

@@ -38,6 +38,6 @@ pub returns-in_err-reserve : goal.returns-in_err-reserve
 returns-in_err-reserve g c =
     let h = rulebook g.R.Book.fixed g.C.Book.fixed in
     let s = standing_of c.loop-line.ledger in
-    let stop = going-stop h c.args.script.now (vec_items c.loop-line.answers) (standing_of c.args.ledger.now) s c.loop-line.line-iterator.rest.now
+    let stop = going-stop h c.args.script.now (vec_items c.loop-line.answers) s c.loop-line.line-iterator.rest.now
     c.in-Some.line.now (lines_of c.next.new.self.rest.now) c.loop-line.invariant.2 c.in-Some.ensures.steps (omega arith) in
     search rules
