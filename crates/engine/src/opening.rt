@@ -33,7 +33,8 @@ fn read_mark<D: Device>(device: &mut D, entry: u32) -> Result<bool, Fault>
     }
 }
 
-// The instruction that the record of an entry says.
+// The instruction that the record of an entry says. It reads a block as `read_mark` does, and differs in what a refused read
+// means.
 fn read_entry<D: Device>(device: &mut D, entry: u32) -> Result<Instruction, Fault>
     requires small { entry < 32767 }
     requires within { 2 + 2 * entry < (D.medium device.old).size }
