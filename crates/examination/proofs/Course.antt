@@ -1,6 +1,5 @@
 -- A script on its way. Assumes nothing.
 use Rattle.std.proofs.Common.{◌≡◌, ℕ, zero, suc, ◌<◌, ◌≤◌, List, [], ◌∷◌, ◌++◌, length, take, drop, sym, refl, ap, ◌∙◌, subst, append_assoc, arith}
-use Rattle.rulebook.specs.Table.{before}
 use Rattle.rulebook.specs.Rules.{Rulebook, Standing, empty}
 use Rattle.rulebook.specs.Law.{Balanced}
 use Rattle.rulebook.specs.Words.{standing_after}

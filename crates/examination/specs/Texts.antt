@@ -5,7 +5,7 @@ use Rattle.answers.specs.Numbers.{number_of}
 use Rattle.answers.specs.declared.Refusal.TheVariants.{InputTooLong}
 use Rattle.rulebook.specs.Rules.{Rulebook, Standing}
 use Rattle.examination.specs.Replies.{Answer}
-use Rattle.examination.specs.Key.{Keyed}
+use Rattle.examination.specs.Key.{Keyed, CutShort}
 
 -- an answer, and what is written after it: 0, with free and blocked after a question, or the refusal's number
 abbrev pub answer_then : Answer → List ℕ → List ℕ
@@ -32,3 +32,9 @@ abbrev pub Printed : Rulebook → Standing → Standing → List ℕ → List �
 Printed h before after script text =
     ((answers : List Answer) × Keyed h after script answers × (text ≡ key_text 1 answers))
     ⊎ ((65536 < length script) × (after ≡ before) × (text ≡ refused_text InputTooLong))
+
+-- Nothing is printed for want of memory: the script has more than 65,536 bytes, and nothing was done; or it was cut short; or
+-- all of its lines were answered.
+abbrev pub Unprinted : Rulebook → Standing → Standing → List ℕ → Type 0
+Unprinted h before after script =
+    ((65536 < length script) × (after ≡ before)) ⊎ (CutShort h after script ⊎ ((answers : List Answer) × Keyed h after script answers))

@@ -1,12 +1,12 @@
 // An examination: a script of lines is answered one after another over a ledger, and the answers are the key.
 #![tactic(auto)]
 
-ghost use Rattle.std.specs.Prelude.{◌≡◌, IfOk, MatchResult, string_bytes};
+ghost use Rattle.std.specs.Prelude.{◌≡◌, MatchResult, string_bytes};
 ghost use Rattle.ledger.specs.View.{rulebook, standing_of};
 ghost use Rattle.script.specs.Requests.{request_in};
 ghost use Rattle.examination.specs.Replies.{reply, moved, KeptUnlessDone};
 ghost use Rattle.examination.specs.Key.{Keyed, Stopped};
-ghost use Rattle.examination.specs.Texts.{Printed};
+ghost use Rattle.examination.specs.Texts.{Printed, Unprinted};
 
 mod stop;
 pub mod text;
@@ -77,8 +77,9 @@ pub fn examine<R: Book, C: Book>(
     ledger: &mut Ledger<R, C>,
     script: &[u8],
 ) -> Result<String, AllocError>
-    ensures { IfOk result
-        (λ text. Printed (rulebook R.fixed C.fixed) (standing_of ledger.old) (standing_of ledger.new) script.now (string_bytes text)) }
+    ensures { MatchResult result
+        (λ text. Printed (rulebook R.fixed C.fixed) (standing_of ledger.old) (standing_of ledger.new) script.now (string_bytes text))
+        (λ _. Unprinted (rulebook R.fixed C.fixed) (standing_of ledger.old) (standing_of ledger.new) script.now) }
 {
     match answer_script(heap, ledger, script) {
         Ok(answers) => key_text(heap, answers.as_slice()),

@@ -7,7 +7,7 @@ ghost use Rattle.rulebook.specs.Rules.{empty, verdict};
 ghost use Rattle.ledger.specs.Rows.{state_question};
 ghost use Rattle.ledger.specs.View.{rulebook, standing_of, holding_question};
 ghost use Rattle.rulebook.specs.Table.{StateTable};
-ghost use Rattle.rulebook.specs.Law.{Given, KeptIfRefused};
+ghost use Rattle.rulebook.specs.Law.{Given, KeptIfRefused, LawOfTheLedger};
 
 mod carrying;
 mod judging;
@@ -87,6 +87,7 @@ impl<R: Book, C: Book> Ledger<R, C> {
         ensures after { Given (rulebook R.fixed C.fixed) (standing_of self.old) (standing_of self.new) x.now }
         ensures kept { KeptIfRefused result (standing_of self.old) (standing_of self.new) }
         ensures table { StateTable }
+        ensures law { LawOfTheLedger }
     {
         let kind = self.parts.accepted(x)?;
         self.parts.carry_out(kind, x);

@@ -3,6 +3,7 @@ use Rattle.std.proofs.lemmas.Result.{err_from_is_err_and}
 use Rattle.rulebook.specs.Rules.{verdict}
 use Rattle.rulebook.specs.Law.{Given}
 use Rattle.rulebook.proofs.Tables.{state-table}
+use Rattle.rulebook.proofs.Whole.{law-of-the-ledger}
 use Rattle.ledger.specs.View.{rulebook}
 use Rattle.ledger.proofs.Views.{stands}
 use Rattle.ledger.proofs.Carried.{given-carried, given-refused}
@@ -24,6 +25,7 @@ returns g c =
       after = subst₂ (λ s t. Given h s t x) (sym old) (sym new) (given-carried g.R.Book g.C.Book c.self.inside.parts c.carry_out.new.self x _ c.in_ok-kind.ensures.0 c.in_ok-kind.ensures.1 c.self.invariant c.carry_out.ensures.register c.carry_out.ensures.cash c.carry_out.ensures.trades);
       kept = tt;
       table = state-table;
+      law = law-of-the-ledger;
     }
 
 pub returns-in_err-kind : goal.returns-in_err-kind
@@ -37,4 +39,5 @@ returns-in_err-kind g c =
       after = subst₂ (λ s t. Given h s t x) (sym old) (sym old) (given-refused h _ x _ c.in_err-kind.ensures c.self.invariant);
       kept = refl;
       table = state-table;
+      law = law-of-the-ledger;
     })
