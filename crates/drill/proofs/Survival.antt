@@ -32,6 +32,12 @@ module _ (m₀ m₁ m₂ m₃ : Medium) (kept loose : ℕ) (bytes : List ℕ) (c
   pub drilled : Drilled m₀ m₃ kept loose bytes (min calls most) old new r
   drilled = record {
     answer = λ away. last-answer away ∙ ap (λ (x : Answer). and_then x (admitted m₀.size (min calls most) kept (length old))) one.answer;
+    refusals = λ e is.
+        three.answer
+        ∙ ap (λ (x : Answer). and_then x (found kept (m₂.holds kept)))
+        (ap (λ (n : ℕ). admitted n m₂.left kept (length old)) (two.size ∙ one.size) ∙ ap (λ (n : ℕ). admitted m₀.size n kept (length old)) two.left
+        ∙ ap (λ (x : Answer). and_then x (admitted m₀.size (min calls most) kept (length old))) one.answer ∙ is);
+    refused = λ e is. three.buffer ∙ ap (λ (x : Answer). if_ok x (filled (m₂.holds kept) old) old) is;
     others = λ k not-kept not-loose. three.same.holds k ∙ cut k not-loose ∙ one.others k not-kept not-loose;
     survived = λ _ away. three.same.holds kept ∙ there away;
     back = λ ok away. three.buffer ∙ ap (λ (x : Answer). if_ok x (filled (m₂.holds kept) old) old) ok ∙ ap (λ (o : Option (List ℕ)). filled o old) (there away);

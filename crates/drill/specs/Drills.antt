@@ -29,6 +29,10 @@ drill-answer m kept loose n calls room = and_then (arm-answer m kept loose n) (a
 -- What was synced is there after the cut, whatever the remains; and no call touched any other block than the two.
 pub record Drilled (m m' : Medium) (kept loose : ℕ) (bytes : List ℕ) (given : ℕ) (old new : List ℕ) (r : Answer) : Type 0 where
   pub answer : (kept ≢ loose) → r ≡ drill-answer m kept loose (length bytes) given (length old)
+  -- what is refused for its numbers is refused so, also where both blocks are the same
+  pub refusals : (e : Fault) → drill-answer m kept loose (length bytes) given (length old) ≡ Err e → r ≡ Err e
+  -- a refusal leaves the buffer
+  pub refused : (e : Fault) → r ≡ Err e → new ≡ old
   pub others : (k : ℕ) → (k ≢ kept) → (k ≢ loose) → m'.holds k ≡ m.holds k
   pub survived : r ≡ Ok tt → (kept ≢ loose) → m'.holds kept ≡ Some bytes
   pub back : r ≡ Ok tt → (kept ≢ loose) → new ≡ bytes

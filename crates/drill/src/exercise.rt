@@ -1,6 +1,6 @@
 // What any powered device must stand, shown from the interface alone.
-ghost use Rattle.std.specs.Prelude.{◌≡◌, min};
-ghost use Rattle.device.specs.Calls.{SameBlocks};
+ghost use Rattle.std.specs.Prelude.{◌≡◌, ◌-◌, min};
+ghost use Rattle.device.specs.Calls.{SameBlocks, if_ok, write-answer};
 ghost use Rattle.drill.specs.Drills.{Armed, Drilled, looked};
 
 use answers::Fault;
@@ -54,6 +54,10 @@ pub fn drill<P: PoweredDevice>(
 // Reads a block, and tells its ends.
 pub fn look<D: Device>(device: &mut D, block: u32) -> Result<Ends, Fault>
     ensures ends { result ≡ looked (D.Device.medium device.old) block }
+    ensures left { (D.Device.medium device.new).left
+        ≡ if_ok (write-answer (D.Device.medium device.old) block 256)
+        ((D.Device.medium device.old).left - 1)
+        (D.Device.medium device.old).left }
     ensures same { SameBlocks (D.Device.medium device.old) (D.Device.medium device.new) }
 {
     let mut buffer = [0u8; 256];
