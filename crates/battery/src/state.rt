@@ -10,10 +10,16 @@ pub struct Battery {
 }
 
 impl Battery {
-    // A device over an image of any length and any bytes, with a number of calls.
+    ghost use Rattle.device.specs.Traces.{Fixed, ReadsKeep};
+    ghost use Rattle.battery.specs.Meaning.{image_of, state_of, Makes};
+
+    // A device over an image of any length and any bytes, with a number of calls. What is said of a call to
+    // such a device leaves nothing open of its image and the calls left.
     pub fn new(image: Vec<u8>, calls: u32) -> Battery
         ensures image { result.rows.image ≡ image }
         ensures left { result.rows.left ≡ calls }
+        ensures fixed { Fixed state_of Makes }
+        ensures reads { ReadsKeep image_of Makes }
     {
         Battery {
             rows: Imaged::new(image, calls),

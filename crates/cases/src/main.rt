@@ -2,11 +2,13 @@
 #![tactic(auto)]
 
 mod books;
+mod cuts;
 mod ledgers;
 mod scripts;
 
 fn main(rt: HostRuntime) -> anyhow::Result<()> {
     books::run(&rt)?;
     ledgers::run(&rt)?;
-    scripts::run(&rt)
+    scripts::run(&rt)?;
+    cuts::run(&rt)
 }

@@ -1,18 +1,18 @@
 // Scripts: malformed lines, numbers at their edges, and inputs of every awkward length.
-use balances::Balances;
-use examination::{answer_script, examine};
-use ledger::Ledger;
+use battery::Battery;
+use examination::text::key_text;
+use examination::{Answer, Stop, answer_script, examine};
+use lots::Lots;
 
 // Prints a script's key.
-fn key(rt: &HostRuntime, script: &[u8]) -> anyhow::Result<()> {
-    let mut ledger = Ledger::new(Balances::new(), Balances::new());
-    let text = examine(rt.alloc(), &mut ledger, script)?;
+pub(crate) fn key(rt: &HostRuntime, script: &[u8]) -> anyhow::Result<()> {
+    let text = examine(rt.alloc(), script)?;
     print!(rt; "{text}")?;
     Ok(())
 }
 
 // Prints the keys of scripts, each below its name.
-fn keys(rt: &HostRuntime, scripts: &[(&str, &[u8])]) -> anyhow::Result<()> {
+pub(crate) fn keys(rt: &HostRuntime, scripts: &[(&str, &[u8])]) -> anyhow::Result<()> {
     for (name, script) in scripts {
         println!(rt; "{name}")?;
         key(rt, script)?;
@@ -85,18 +85,43 @@ fn edges(rt: &HostRuntime) -> anyhow::Result<()> {
     )
 }
 
-// So many line feeds: the number of lines answered, or what is printed of a script that is too long.
-fn long(rt: &HostRuntime, count: usize) -> anyhow::Result<()> {
-    let heap = rt.alloc();
-    let script = vec![in heap; b'\n'; count]?;
-    println!(rt; "{count} line feeds")?;
-    let mut ledger = Ledger::new(Balances::new(), Balances::new());
-    match answer_script(heap, &mut ledger, script.as_slice()) {
+// Answers a script over a battery-backed device of three blocks, with a register and a cash book of lots, and a journal of so
+// many pairs.
+fn over_lots(
+    rt: &HostRuntime,
+    pairs: u32,
+    script: &[u8],
+) -> anyhow::Result<Result<Vec<Answer>, Stop>> {
+    let image = vec![in rt.alloc(); 0; 771]?;
+    let device = Battery::new(image, 1000);
+    Ok(answer_script(rt.alloc(), device, pairs, Lots::new(), Lots::new(), script))
+}
+
+// So many line feeds: the number of lines answered, or why there is no key.
+fn long(rt: &HostRuntime, pairs: u32, count: usize) -> anyhow::Result<()> {
+    let script = vec![in rt.alloc(); b'\n'; count]?;
+    println!(rt; "{count} line feeds, {pairs} pairs")?;
+    match over_lots(rt, pairs, script.as_slice())? {
         Ok(answers) => {
             let answered = answers.len();
             println!(rt; "{answered} lines")?;
         }
-        Err(_) => key(rt, script.as_slice())?,
+        Err(Stop::Refused(fault)) => {
+            let refusal = fault.number();
+            println!(rt; "refused {refusal}")?;
+        }
+        Err(Stop::NoMemory(error)) => return Err(error.into()),
+    }
+    Ok(())
+}
+
+// A key over lots: a lot has one owner, and the second instruction finds the journal full.
+fn lots(rt: &HostRuntime) -> anyhow::Result<()> {
+    println!(rt; "lots")?;
+    let script = b"Q 1 255\nI 1 255 1\nI 2 255 1\nI 2 254 1\nQ 1 255\nQ 2 256\nC 3\nC 2\n";
+    if let Ok(answers) = over_lots(rt, 1, script)? {
+        let text = key_text(rt.alloc(), answers.as_slice())?;
+        print!(rt; "{text}")?;
     }
     Ok(())
 }
@@ -104,8 +129,13 @@ fn long(rt: &HostRuntime, count: usize) -> anyhow::Result<()> {
 pub(crate) fn run(rt: &HostRuntime) -> anyhow::Result<()> {
     shapes(rt)?;
     edges(rt)?;
-    long(rt, 65535)?;
-    long(rt, 65536)?;
-    long(rt, 65537)?;
-    long(rt, 1000000)
+    lots(rt)?;
+    long(rt, 1, 65535)?;
+    long(rt, 1, 65536)?;
+    long(rt, 1, 65537)?;
+    long(rt, 2, 1)?;
+    long(rt, 0, 65537)?;
+    println!(rt; "1000000 line feeds")?;
+    let feeds = vec![in rt.alloc(); b'\n'; 1000000]?;
+    key(rt, feeds.as_slice())
 }

@@ -63,7 +63,7 @@ sync-refused {m} {m'} {e} s =
           absurd (omega arith)
     ]
 
-then-passed : (x y : Answer) → Ok tt ≡ and_then x y → (x ≡ Ok tt) × (y ≡ Ok tt)
+pub then-passed : (x y : Answer) → Ok tt ≡ and_then x y → (x ≡ Ok tt) × (y ≡ Ok tt)
 then-passed (Ok x) y e = (refl, sym e)
 then-passed (Err f) y e =
     let z : ◌≡◌ {A = ℕ} 0 1 = cc in

@@ -2,3 +2,4 @@ pub mod Splices
 pub mod Answered
 pub mod Rows
 pub mod Meaning
+pub mod Traces

@@ -1,10 +1,10 @@
 -- Rows of an image, at any width.
-use Rattle.std.proofs.Common.{◌≡◌, ℕ, ◌+◌, ◌-◌, ◌*◌, ◌/◌, ◌<◌, ◌≤◌, min, ◌≢◌, List, length, get_or, take, drop, Vec, sym, ap, ◌∙◌, subst, inl, inr, mul_comm, mul-le-mul_left, mul-add, div-mul-le_self, arith, length-drop, length-take}
+use Rattle.std.proofs.Common.{◌≡◌, ℕ, zero, suc, ◌+◌, ◌-◌, ◌*◌, ◌/◌, ◌<◌, ◌≤◌, min, ◌≢◌, List, length, get_or, take, drop, Vec, sym, ap, ◌∙◌, subst, inl, inr, mul_comm, mul-le-mul_left, mul-add, div-mul-le_self, arith, length-drop, length-take}
 use borrow.Rule.Slice.PartMut.{put_mid}
 use Rattle.std.specs.Vec.{with_items}
 use Rattle.std.specs.declared.alloc.Global.{Global}
 use Rattle.std.proofs.lemmas.List.{get_or-take, get_or-drop, ext_get_or, with_items_is}
-use Rattle.std.proofs.lemmas.Bool.{cases_eq, cases_order}
+use Rattle.std.proofs.lemmas.Bool.{cases_eq, cases_lt, cases_order}
 use Rattle.device.specs.Bytes.{splice}
 use Rattle.device.specs.Images.{blocks, row, put, EachRow}
 use Rattle.device.proofs.Splices.{length-splice, splice-outside, cut-outside, cut-same, mid-is}
@@ -63,13 +63,17 @@ lent-put w v s b new r h lent is full =
     ∙ ap (λ (zs : List ℕ). splice zs (w * b) new) lent ∙ ap (λ (zs : List ℕ). put w v.items b zs) is in
     with_items_is v _ (ap length mid ∙ put-length w v.items b r (room w v.items b h) full ∙ sym v.ok.0) ∙ mid
 
+-- a byte of a row, as the image has it
+row-at : (w : ℕ) (xs : List ℕ) (b k : ℕ) → k < w → get_or (row w xs b) k 0 ≡ get_or xs (w * b + k) 0
+row-at w xs b k l = get_or-take w _ k 0 l ∙ get_or-drop (w * b) xs k 0
+
 -- what is not yet gone over is as it was
 pub each_next : (w : ℕ) (f : ℕ → List ℕ → List ℕ) (n : ℕ) (xs ys : List ℕ) → EachRow w f n xs ys → row w ys n ≡ row w xs n
 each_next w f n xs ys s =
     ext_get_or 0 _ _ (simp (length-take, length-drop, s.len))
     (λ k l.
     let i : k < w = omega (arith, length-take w (drop (w * n) ys)) in
-    get_or-take w _ k 0 i ∙ get_or-drop (w * n) ys k 0 ∙ s.rest (w * n + k) (omega arith) ∙ sym (get_or-drop (w * n) xs k 0) ∙ sym (get_or-take w _ k 0 i))
+    row-at w ys n k i ∙ s.rest (w * n + k) (omega arith) ∙ sym (row-at w xs n k i))
 
 -- one row more, from the first on
 pub each_more : (w : ℕ) (f : ℕ → List ℕ → List ℕ) (n : ℕ) (xs ys r : List ℕ) → w * n + w ≤ length xs → EachRow w f n xs ys → length r ≡ w → r ≡ f n (row w ys n) → EachRow w f (n + 1) xs (put w ys n r)
@@ -104,3 +108,31 @@ each_again w f g n xs ys b r h s lt full e others =
 -- the same change, said otherwise
 pub each-as : (w : ℕ) (f g : ℕ → List ℕ → List ℕ) (n : ℕ) (xs ys : List ℕ) → EachRow w f n xs ys → ((b : ℕ) → b < n → f b (row w xs b) ≡ g b (row w xs b)) → EachRow w g n xs ys
 each-as w f g n xs ys s h = record { len = s.len; rows = λ b l. s.rows b l ∙ h b l; rest = s.rest }
+
+-- a place in the first n rows, by its row and its place there
+place : (w i n : ℕ) → i < w * n → (b : ℕ) × (k : ℕ) × (b < n) × (k < w) × (i ≡ w * b + k)
+place w i zero l = absurd (omega (arith, l))
+place w i (suc n) l =
+    let next : suc n ≡ n + 1 = omega arith in
+    let e : w * suc n ≡ w * n + w = ap (λ (m : ℕ). w * m) next ∙ row-end w n in
+    elim (cases_lt i (w * n)) [
+      | inl before ↦ let p = place w i n before in (p.0, p.1, omega (arith, p.2), p.3, p.4)
+      | inr from ↦ (n, i - w * n, omega arith, omega arith, omega arith)
+    ]
+
+-- the rows and the rest are all of an image
+pub each-fixed : (w : ℕ) (f : ℕ → List ℕ → List ℕ) (n : ℕ) (xs ys zs : List ℕ) → EachRow w f n xs ys → EachRow w f n xs zs → ys ≡ zs
+each-fixed w f n xs ys zs s t =
+    ext_get_or 0 ys zs (s.len ∙ sym t.len)
+    (λ i _.
+    elim (cases_lt i (w * n)) [
+      | inl l ↦
+          let p = place w i n l in
+          let b = p.0 in
+          let k = p.1 in
+          let same : row w ys b ≡ row w zs b = s.rows b p.2 ∙ sym (t.rows b p.2) in
+          let there : get_or ys (w * b + k) 0 ≡ get_or zs (w * b + k) 0 =
+          sym (row-at w ys b k p.3) ∙ ap (λ (r : List ℕ). get_or r k 0) same ∙ row-at w zs b k p.3 in
+          rw p.4 there
+      | inr past ↦ s.rest i past ∙ sym (t.rest i past)
+    ])

@@ -22,8 +22,12 @@ admitted size left b n =
 abbrev pub write-answer : Medium → ℕ → ℕ → Answer
 write-answer m b n = admitted m.size m.left b n
 
+-- the check of a sync
+abbrev pub spend_answer : ℕ → Answer
+spend_answer left = cond (left == 0) (Err (plain NoCalls)) (Ok tt)
+
 abbrev pub sync-answer : Medium → Answer
-sync-answer m = cond (m.left == 0) (Err (plain NoCalls)) (Ok tt)
+sync-answer m = spend_answer m.left
 
 -- what an admitted read of block b answers, by what b holds
 abbrev pub found : ℕ → Option (List ℕ) → Answer

@@ -3,3 +3,4 @@ pub mod Calls
 pub mod Power
 pub mod Bytes
 pub mod Images
+pub mod Traces

@@ -2,10 +2,11 @@
 // proved once. docs/DEVICES.md says it in words.
 #![tactic(auto)]
 
-ghost use Rattle.std.specs.Prelude.{◌≡◌, ℕ, ◌^◌, ◌<◌, List};
+ghost use Rattle.std.specs.Prelude.{◌≡◌, ℕ, ◌^◌, ◌<◌, length};
 ghost use Rattle.device.specs.Medium.{Medium, Bounded};
 ghost use Rattle.device.specs.Calls.{Read, Write, Sync};
 ghost use Rattle.device.specs.Power.{Restart};
+ghost use Rattle.device.specs.Traces.{DeviceCall, reading, writing, syncing, restarting};
 
 mod imaged;
 mod images;
@@ -21,32 +22,36 @@ pub const BLOCK: usize = 256;
 pub trait Device {
     ghost medium: { Self → Medium };
 
+    // What the kind says exactly of a call: a device, the call, and the device after it. What every device promises leaves
+    // open whether a written block is loose and what some refusals leave, and a kind may say that here.
+    ghost makes: { Self → DeviceCall → Self → Type 0 };
+
     fn size(&self) -> u32
         ensures { result ≡ (medium self.now).size };
 
     fn read(&mut self, block: u32, buffer: &mut [u8]) -> Result<(), Fault>
-        ensures { Read (medium self.old) (medium self.new) block buffer.old buffer.new result };
+        ensures call { Read (medium self.old) (medium self.new) block buffer.old buffer.new result }
+        ensures kind { makes self.old (reading block (length buffer.old)) self.new };
 
     fn write(&mut self, block: u32, bytes: &[u8]) -> Result<(), Fault>
-        ensures { Write (medium self.old) (medium self.new) block bytes.now result };
+        ensures call { Write (medium self.old) (medium self.new) block bytes.now result }
+        ensures kind { makes self.old (writing block bytes.now) self.new };
 
     fn sync(&mut self) -> Result<(), Fault>
-        ensures { Sync (medium self.old) (medium self.new) result };
+        ensures call { Sync (medium self.old) (medium self.new) result }
+        ensures kind { makes self.old syncing self.new };
 
     ghost bounds: { (d : Self) → Bounded (medium d) };
 }
 
 // A device that can lose its power and be restarted. Its kind fixes the largest number of calls that a restart gives,
-// and what a restart makes of the loose blocks.
+// and says what a restart makes of the loose blocks.
 pub trait PoweredDevice: Device {
     ghost most: { ℕ };
 
-    // a device, the number and the remains that its restart is given, and the device after it
-    ghost revives: { Self → ℕ → List ℕ → Self → Type 0 };
-
     fn restart(&mut self, calls: u32, remains: &[u8])
         ensures call { Restart (Self.Device.medium self.old) (Self.Device.medium self.new) calls most }
-        ensures kind { revives self.old calls remains.now self.new };
+        ensures kind { Self.makes self.old (restarting calls remains.now) self.new };
 
     ghost limit: { most < 2 ^ 32 };
 }

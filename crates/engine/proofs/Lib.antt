@@ -1,3 +1,9 @@
 pub mod Errors
 pub mod Scans
 pub mod Opens
+pub mod Instructs
+pub mod Finds
+pub mod Openings
+pub mod Tracks
+pub mod Standings
+pub mod Keeping

@@ -24,8 +24,13 @@ pub record Turn (h : Rulebook) (pairs : ℕ) (m₀ : Medium) (s₀ : Standing) (
   pub medium : m ≡ with_calls m.left m₀
 
 -- what the reading of an entry answers, and the device and the standing after it
-abbrev pub EntryRead : Rulebook → ℕ → Medium → Standing → Result (Option Instruction) Fault → Medium → Standing → Type 0
-EntryRead h k m s r m' s' = record { answer : r ≡ entry_answer h m s k; after : m' ≡ drained (spent_by r) m; books : s' ≡ leads_to s r }
+pub record EntryRead (h : Rulebook) (k : ℕ) (m : Medium) (s : Standing) (r : Result (Option Instruction) Fault) (m' : Medium) (s' : Standing) : Type 0 where
+  pub answer : r ≡ entry_answer h m s k
+  pub after : m' ≡ drained (spent_by r) m
+  pub books : s' ≡ leads_to s r
+
+pub entry-read : {h : Rulebook} {k : ℕ} {m : Medium} {s : Standing} {r : Result (Option Instruction) Fault} {m' : Medium} {s' : Standing} → r ≡ entry_answer h m s k → m' ≡ drained (spent_by r) m → s' ≡ leads_to s r → EntryRead h k m s r m' s'
+entry-read a e b = record { answer = a; after = e; books = b }
 
 module _ {h : Rulebook} {pairs : ℕ} {m₀ : Medium} {s₀ : Standing} {k : ℕ} {found : Recovered} {m : Medium} {s : Standing} (t : Turn h pairs m₀ s₀ k found m s) where
   -- what comes after entry k

@@ -2,3 +2,8 @@ pub mod Slips
 pub mod View
 pub mod Recovery
 pub mod Opening
+pub mod Instructing
+pub mod Asking
+pub mod Tracing
+pub mod Lasting
+pub mod Standing

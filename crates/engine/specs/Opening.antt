@@ -10,6 +10,7 @@ use Rattle.rulebook.specs.Rules.{Rulebook, Standing, empty}
 use Rattle.device.specs.Medium.{Medium}
 use Rattle.journal.specs.declared.header.Header.{Header}
 use Rattle.journal.specs.Blocks.{header_in}
+use Rattle.journal.specs.Format.{header_for as header_of}
 use Rattle.engine.specs.declared.engine.Mode.TheVariants.{Open, Refused}
 use Rattle.engine.specs.declared.engine.Recovered.{Recovered}
 use Rattle.engine.specs.View.{View}
@@ -64,7 +65,7 @@ opened h m = opened_on h (after_header m) (header_answer (h.kind securities).cod
 
 -- the header of a journal for these books, of so many pairs
 abbrev pub header_for : Rulebook → ℕ → Header
-header_for h pairs = record { register = (h.kind securities).code; cash = (h.kind cash).code; pairs = pairs }
+header_for h pairs = header_of (h.kind securities).code (h.kind cash).code pairs
 
 -- the last of a list, if any
 abbrev pub last_of : List Instruction → Option Instruction

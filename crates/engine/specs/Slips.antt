@@ -9,6 +9,10 @@ use Rattle.engine.specs.declared.slip.Verdict.TheVariants.{Same, Stands, Unknown
 abbrev pub contents : Slip → Option Contents
 contents s = s.holds
 
+-- it was neither presented nor filed yet, and cannot be let go before it is
+abbrev pub IsOwed : Slip → Type 0
+IsOwed s = s.spent ≡ false
+
 -- the slip of an engine whose opening was refused
 abbrev pub unknown : Option Contents
 unknown = None

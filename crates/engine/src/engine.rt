@@ -1,5 +1,5 @@
 // The engine: a device and a ledger under one journal.
-ghost use Rattle.std.specs.Prelude.{◌≤◌};
+ghost use Rattle.std.specs.Prelude.{◌≤◌, ◌<◌, ◌*◌};
 
 use answers::Fault;
 use book::Book;
@@ -36,4 +36,5 @@ pub struct Engine<D: Device, R: Book, C: Book> {
     pub(crate) count: u32,
     ghost few: { pairs ≤ 32767 },
     ghost within: { count ≤ pairs },
+    ghost fits: { 0 < pairs → 2 * pairs < (D.medium device).size },
 }

@@ -4,6 +4,9 @@ ghost use Rattle.rulebook.specs.Rules.{empty};
 ghost use Rattle.ledger.specs.View.{rulebook, standing_of};
 ghost use Rattle.engine.specs.Opening.{header_answer, after_header, Fits, refused_as, opened_on, opened};
 ghost use Rattle.engine.specs.Recovery.{drained, mark_answer, record_answer, entry_answer, spent_by, leads_to, scan, Scanned};
+ghost use Rattle.engine.specs.Standing.{Opens, Prompt};
+ghost use Rattle.device.specs.Calls.{SameBlocks};
+ghost use Rattle.device.specs.Traces.{ReadOnly};
 ghost use Rattle.engine.specs.View.{view};
 
 pub use crate::engine::Recovered;
@@ -24,6 +27,7 @@ fn read_mark<D: Device>(device: &mut D, entry: u32) -> Result<bool, Fault>
     requires within { 2 + 2 * entry < (D.medium device.old).size }
     ensures answer { result ≡ mark_answer (D.medium device.old) entry }
     ensures after { D.medium device.new ≡ drained 1 (D.medium device.old) }
+    ensures reads { ReadOnly D.makes device.old device.new }
 {
     let mut block = [0; BLOCK];
     match device.read(2 + 2 * entry, &mut block) {
@@ -40,6 +44,7 @@ fn read_entry<D: Device>(device: &mut D, entry: u32) -> Result<Instruction, Faul
     requires within { 2 + 2 * entry < (D.medium device.old).size }
     ensures answer { result ≡ record_answer (D.medium device.old) entry }
     ensures after { D.medium device.new ≡ drained 1 (D.medium device.old) }
+    ensures reads { ReadOnly D.makes device.old device.new }
 {
     let mut block = [0; BLOCK];
     device
@@ -59,6 +64,7 @@ fn replay_entry<D: Device, R: Book, C: Book>(
     ensures answer { result ≡ entry_answer (rulebook R.fixed C.fixed)
         (D.medium device.old) (standing_of ledger.old) entry }
     ensures after { D.medium device.new ≡ drained (spent_by result) (D.medium device.old) }
+    ensures reads { ReadOnly D.makes device.old device.new }
     ensures books { standing_of ledger.new ≡ leads_to (standing_of ledger.old) result }
 {
     if !read_mark(device, entry)? {
@@ -81,6 +87,7 @@ fn replay<D: Device, R: Book, C: Book>(
         (scan (rulebook R.fixed C.fixed) pairs (D.medium device.old) 0 (standing_of ledger.old) None)
         (D.medium device.old) (D.medium device.new) (standing_of ledger.new) result }
     ensures within { IfOk result (λ found. found.count ≤ pairs) }
+    ensures reads { ReadOnly D.makes device.old device.new }
 {
     let mut done: u32 = 0;
     let mut last = None;
@@ -103,6 +110,7 @@ fn read_header<D: Device>(device: &mut D, register: u8, cash: u8) -> Result<u32,
     ensures answer { result ≡ header_answer register cash (D.medium device.old) }
     ensures after { D.medium device.new ≡ after_header (D.medium device.old) }
     ensures fits { IfOk result (λ pairs. Fits pairs (D.medium device.new)) }
+    ensures reads { ReadOnly D.makes device.old device.new }
 {
     let mut block = [0; BLOCK];
     device.read(0, &mut block)?;
@@ -119,7 +127,12 @@ fn read_header<D: Device>(device: &mut D, register: u8, cash: u8) -> Result<u32,
 impl<D: Device, R: Book, C: Book> Engine<D, R, C> {
     // Moves the device and the books in, and always gives an engine, which keeps the opening's answer.
     pub fn open(mut device: D, register: R, cash: C) -> Self
-        ensures { view D.medium result ≡ opened (rulebook R.fixed C.fixed) (D.medium device) }
+        ensures opened { view D.medium result ≡ opened (rulebook R.fixed C.fixed) (D.medium device) }
+        ensures found { let v = view D.medium result in
+            Opens (rulebook R.fixed C.fixed) (D.medium device) v v.mode }
+        ensures prompt { Prompt (rulebook R.fixed C.fixed) (D.medium device) (view D.medium result).mode }
+        ensures kept { SameBlocks (D.medium device) (D.medium result.device) }
+        ensures reads { ReadOnly D.makes device result.device }
     {
         let register_kind = register.kind();
         let cash_kind = cash.kind();
@@ -134,8 +147,9 @@ impl<D: Device, R: Book, C: Book> Engine<D, R, C> {
     fn recovered(mut device: D, mut ledger: Ledger<R, C>, pairs: u32) -> Self
         requires fits { Fits pairs (D.medium device) }
         requires empty { standing_of ledger ≡ empty }
-        ensures { view D.medium result
+        ensures opened { view D.medium result
             ≡ opened_on (rulebook R.fixed C.fixed) (D.medium device) (Ok pairs) }
+        ensures reads { ReadOnly D.makes device result.device }
     {
         let found = match replay(&mut device, &mut ledger, pairs) {
             Ok(found) => found,
@@ -153,7 +167,8 @@ impl<D: Device, R: Book, C: Book> Engine<D, R, C> {
 
     // Clears books and trades again.
     fn refused(device: D, mut ledger: Ledger<R, C>, fault: Fault) -> Self
-        ensures { view D.medium result ≡ refused_as fault (D.medium device) }
+        ensures refused { view D.medium result ≡ refused_as fault (D.medium device) }
+        ensures device { result.device ≡ device }
     {
         ledger.clear();
         Engine {

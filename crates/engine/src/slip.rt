@@ -1,6 +1,6 @@
 // The closing slip: plain numbers, owed until it is presented or filed.
 ghost use Rattle.std.specs.Prelude.{◌≡◌, true, is_some};
-ghost use Rattle.engine.specs.Slips.{contents, judged, Judges, number_of, is_last};
+ghost use Rattle.engine.specs.Slips.{contents, IsOwed, judged, Judges, number_of, is_last};
 
 use instruction::Instruction;
 
@@ -49,7 +49,8 @@ impl Drop for Slip {
 
 impl Slip {
     pub(crate) fn owed(holds: Option<Contents>) -> Slip
-        ensures { contents result ≡ holds }
+        ensures holds { contents result ≡ holds }
+        ensures owed { IsOwed result }
     {
         Slip {
             holds,

@@ -2,9 +2,7 @@
 #![tactic(auto)]
 
 use anyhow::anyhow;
-use balances::Balances;
 use examination::examine;
-use ledger::Ledger;
 use std::io::Read;
 
 // One byte more than a script may have, so that a longer input is seen as too long and not read to its end.
@@ -14,10 +12,7 @@ fn main(rt: HostRuntime) -> anyhow::Result<()> {
     let heap = rt.alloc();
     let mut script = Vec::new(heap);
     rt.stdin().take(ENOUGH).read_to_end(&mut script)?;
-    let mut ledger = Ledger::new(Balances::new(), Balances::new());
-    let key = examine(heap, &mut ledger, script.as_slice()).map_err(|_| anyhow!(
-        "no memory for the key"
-    ))?;
+    let key = examine(heap, script.as_slice()).map_err(|_| anyhow!("no memory for the key"))?;
     print!(rt; "{key}")?;
     Ok(())
 }

@@ -1,3 +1,3 @@
+pub mod Whole
 pub mod Keys
-pub mod Course
-pub mod Written
+pub mod Prints

@@ -1,3 +1,5 @@
-pub mod Replies
+pub mod Orders
+pub mod Answers
 pub mod Key
 pub mod Texts
+pub mod Program

@@ -1,17 +1,36 @@
 -- The key as text. Assumes nothing.
-use Rattle.std.specs.Prelude.{◌≡◌, ℕ, ◌+◌, ◌<◌, ◌⊎◌, List, [], ◌∷◌, ◌++◌, length, Some, None, Ok, Err, decimal}
+use Rattle.std.specs.Prelude.{ℕ, ◌+◌, List, [], ◌∷◌, ◌++◌, Some, None, Ok, Err, Option, Result, decimal}
 use Rattle.answers.specs.declared.Refusal.{Refusal}
 use Rattle.answers.specs.Numbers.{number_of}
-use Rattle.answers.specs.declared.Refusal.TheVariants.{InputTooLong}
-use Rattle.rulebook.specs.Rules.{Rulebook, Standing}
-use Rattle.examination.specs.Replies.{Answer}
-use Rattle.examination.specs.Key.{Keyed, CutShort}
+use Rattle.device.specs.Calls.{Answer as DeviceAnswer}
+use Rattle.engine.specs.declared.slip.Verdict.{Verdict}
+use Rattle.engine.specs.Slips.{number_of as verdict_number}
+use Rattle.examination.specs.declared.answer.Answer.{Answer}
+use Rattle.examination.specs.declared.answer.Answer.TheVariants.{Done, Amounts, Reopened, Refused, Unasked}
 
--- an answer, and what is written after it: 0, with free and blocked after a question, or the refusal's number
+-- 0, or the refusal's number
+abbrev pub opening_number : DeviceAnswer → ℕ
+opening_number (Ok u) = 0
+opening_number (Err f) = number_of f.refusal
+
+-- what a slip that is presented is answered: the verdict's number, or the refusal's
+abbrev pub presented_number : Result Verdict Refusal → ℕ
+presented_number (Ok v) = verdict_number v
+presented_number (Err r) = number_of r
+
+-- the same, or a dash (45) where there is no slip
+abbrev pub presented_then : Option (Result Verdict Refusal) → List ℕ → List ℕ
+presented_then (Some p) rest = decimal (presented_number p) ++ rest
+presented_then None rest = 45 ∷ rest
+
+-- An answer, and what is written after it: 0, with free and blocked after a question, or the refusal's number. After a cut, what
+-- the opening was answered, the count found, and what the slip was. A dash is for what no line asks.
 abbrev pub answer_then : Answer → List ℕ → List ℕ
-answer_then (Ok None) rest = 48 ∷ rest
-answer_then (Ok (Some f)) rest = 48 ∷ 32 ∷ (decimal f.free ++ (32 ∷ (decimal f.blocked ++ rest)))
-answer_then (Err f) rest = decimal (number_of f.refusal) ++ rest
+answer_then Done rest = 48 ∷ rest
+answer_then (Amounts f) rest = 48 ∷ 32 ∷ (decimal f.free ++ (32 ∷ (decimal f.blocked ++ rest)))
+answer_then (Reopened o) rest = decimal (opening_number o.answer) ++ (32 ∷ (decimal o.found ++ (32 ∷ presented_then o.presented rest)))
+answer_then (Refused r) rest = decimal (number_of r) ++ rest
+answer_then Unasked rest = 45 ∷ rest
 
 -- a line's number, a space, its answer and a line feed (10)
 abbrev pub line_text : ℕ → Answer → List ℕ
@@ -25,16 +44,3 @@ key_text n (a ∷ rest) = line_text n a ++ key_text (n + 1) rest
 -- a script that is refused as a whole: 0, a space, the refusal's number and a line feed
 abbrev pub refused_text : Refusal → List ℕ
 refused_text r = 48 ∷ 32 ∷ (decimal (number_of r) ++ (10 ∷ []))
-
--- What is printed for a script, by what the ledger was before and is after: the key of a script that got one; else line 0
--- alone, where it has more than 65,536 bytes, and nothing was done.
-abbrev pub Printed : Rulebook → Standing → Standing → List ℕ → List ℕ → Type 0
-Printed h before after script text =
-    ((answers : List Answer) × Keyed h after script answers × (text ≡ key_text 1 answers))
-    ⊎ ((65536 < length script) × (after ≡ before) × (text ≡ refused_text InputTooLong))
-
--- Nothing is printed for want of memory: the script has more than 65,536 bytes, and nothing was done; or it was cut short; or
--- all of its lines were answered.
-abbrev pub Unprinted : Rulebook → Standing → Standing → List ℕ → Type 0
-Unprinted h before after script =
-    ((65536 < length script) × (after ≡ before)) ⊎ (CutShort h after script ⊎ ((answers : List Answer) × Keyed h after script answers))

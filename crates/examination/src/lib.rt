@@ -1,89 +1,68 @@
-// An examination: a script of lines is answered one after another over a ledger, and the answers are the key.
+// An examination: a script of lines is given to a depository, and what it answers is the key.
 #![tactic(auto)]
 
-ghost use Rattle.std.specs.Prelude.{◌≡◌, MatchResult, string_bytes};
-ghost use Rattle.ledger.specs.View.{rulebook, standing_of};
-ghost use Rattle.script.specs.Requests.{request_in};
-ghost use Rattle.examination.specs.Replies.{reply, moved, KeptUnlessDone};
-ghost use Rattle.examination.specs.Key.{Keyed, Stopped};
-ghost use Rattle.examination.specs.Texts.{Printed, Unprinted};
+ghost use Rattle.std.specs.Prelude.{◌≡◌, MatchResult, map};
+ghost use Rattle.ledger.specs.View.{rulebook, by_side};
+ghost use Rattle.depository.specs.Orders.{order};
+ghost use Rattle.examination.specs.Key.{Replied, Unserved, Keyed, Stopped};
 
-mod stop;
+mod answer;
+mod lines;
+mod program;
 pub mod text;
 
-use answers::{Fault, Refusal};
-use book::{Book, Holding};
-use ledger::Ledger;
-use script::{Lines, Request, read_line};
-use std::alloc::{AllocError, Global};
-pub use stop::Stop;
-use text::{key_text, refusal_text};
+pub use answer::Answer;
+use answers::Refusal;
+use book::Book;
+pub use depository::Stop;
+use depository::{Call, Reply, serve};
+use device::{Device, PoweredDevice};
+use lines::{answers_for, calls_for, read_requests};
+pub use program::examine;
+use std::alloc::Global;
 
 // The most bytes that a script may have.
 const LONGEST: usize = 65536;
 
-// What one line is answered: nothing more where an instruction was accepted, the amounts that a question asks for,
-// or the fault.
-pub type Answer = Result<Option<Holding>, Fault>;
-
-// Reads one line and does what it asks for.
-pub fn answer_line<R: Book, C: Book>(ledger: &mut Ledger<R, C>, line: &[u8]) -> Answer
-    ensures answer { result ≡ reply (rulebook R.fixed C.fixed) (standing_of ledger.old) (request_in line.now) }
-    ensures after { standing_of ledger.new ≡ moved (rulebook R.fixed C.fixed) (standing_of ledger.old) (request_in line.now) }
-    ensures kept { KeptUnlessDone result (standing_of ledger.old) (standing_of ledger.new) }
+// Formats a device for these books and gives the depository the calls. Whatever it owes in the end is filed.
+fn replies_to<D: PoweredDevice + Drop, R: Book + Drop, C: Book + Drop>(
+    heap: Global,
+    device: D,
+    pairs: u32,
+    register: R,
+    cash: C,
+    calls: &[Call<'_>],
+) -> Result<Vec<Reply>, Stop>
+    ensures { let means = D.Device.medium in let books = by_side (R.holdings register) (C.holdings cash) in
+        MatchResult result
+        (λ replies. Replied D.makes means (rulebook R.fixed C.fixed) D.PoweredDevice.most pairs device books (map order calls.now) replies.items)
+        (λ stop. Unserved pairs (means device) stop) }
 {
-    match read_line(line)? {
-        Request::Instruct(x) => {
-            ledger.instruct(&x)?;
-            Ok(None)
-        }
-        Request::Register(position) => {
-            let held = ledger.securities(position.account, position.item)?;
-            Ok(Some(held))
-        }
-        Request::Cash(position) => {
-            let held = ledger.money(position.account, position.item)?;
-            Ok(Some(held))
-        }
-    }
+    let (depository, served) = serve(heap, device, pairs, register, cash, calls);
+    let _ = depository.finish();
+    Ok(served?)
 }
 
-// Clears the ledger and answers every line of a script. Room for an answer is made before its line is read, so
-// that want of memory leaves no line done and not answered.
-pub fn answer_script<R: Book, C: Book>(
+// Gives a script to a depository over this device and these books, and makes an answer to each line of what it replies.
+pub fn answer_script<D: PoweredDevice + Drop, R: Book + Drop, C: Book + Drop>(
     heap: Global,
-    ledger: &mut Ledger<R, C>,
+    device: D,
+    pairs: u32,
+    register: R,
+    cash: C,
     script: &[u8],
 ) -> Result<Vec<Answer>, Stop>
-    ensures { MatchResult result
-        (λ answers. Keyed (rulebook R.fixed C.fixed) (standing_of ledger.new) script.now answers.items)
-        (λ stop. Stopped (rulebook R.fixed C.fixed) (standing_of ledger.old) (standing_of ledger.new) script.now stop) }
+    ensures { let means = D.Device.medium in let books = by_side (R.holdings register) (C.holdings cash) in
+        MatchResult result
+        (λ answers. Keyed D.makes means (rulebook R.fixed C.fixed) D.PoweredDevice.most pairs device books script.now answers.items)
+        (λ stop. Stopped pairs (means device) script.now stop) }
 {
     if script.len() > LONGEST {
-        return Err(Stop::Refused(Refusal::InputTooLong));
+        return Err(Stop::Refused(Refusal::InputTooLong.into()));
     }
-    ledger.clear();
-    let mut answers = Vec::new(heap);
-    for line in Lines::new(script) {
-        answers.reserve(1)?;
-        answers.push_reserved(answer_line(ledger, line));
-    }
+    let requests = read_requests(heap, script)?;
+    let calls = calls_for(heap, requests.as_slice())?;
+    let replies = replies_to(heap, device, pairs, register, cash, calls.as_slice())?;
+    let answers = answers_for(heap, requests.as_slice(), replies.as_slice())?;
     Ok(answers)
-}
-
-// Answers a script, and gives what is to be printed: the whole key, or line 0 where the script is refused.
-pub fn examine<R: Book, C: Book>(
-    heap: Global,
-    ledger: &mut Ledger<R, C>,
-    script: &[u8],
-) -> Result<String, AllocError>
-    ensures { MatchResult result
-        (λ text. Printed (rulebook R.fixed C.fixed) (standing_of ledger.old) (standing_of ledger.new) script.now (string_bytes text))
-        (λ _. Unprinted (rulebook R.fixed C.fixed) (standing_of ledger.old) (standing_of ledger.new) script.now) }
-{
-    match answer_script(heap, ledger, script) {
-        Ok(answers) => key_text(heap, answers.as_slice()),
-        Err(Stop::Refused(refusal)) => refusal_text(heap, refusal),
-        Err(Stop::NoMemory(error)) => Err(error),
-    }
 }

@@ -1,26 +1,60 @@
 // The key as text. Functions, and no `Display`, since a contract says which bytes each text is.
 ghost use Rattle.std.specs.Prelude.{◌≡◌, IfOk, string_bytes};
-ghost use Rattle.examination.specs.Texts.{line_text, key_text, refused_text};
+ghost use Rattle.examination.specs.Texts.{opening_number, presented_number, line_text, key_text, refused_text};
+ghost use Rattle.examination.specs.declared.answer.Answer.TheVariants.{Reopened};
 
 use crate::Answer;
-use answers::Refusal;
+use answers::{Fault, Refusal, answer_number};
+use depository::Opened;
+use engine::Verdict;
 use std::alloc::{AllocError, Global};
 
-// A line's number and answer; a question adds free and blocked.
+fn opening_number(answer: Result<(), Fault>) -> u8
+    ensures { result ≡ opening_number answer }
+{
+    answer_number(answer.map_err(|fault| fault.refusal))
+}
+
+fn presented_number(presented: Result<Verdict, Refusal>) -> u8
+    ensures { result ≡ presented_number presented }
+{
+    match presented {
+        Ok(verdict) => verdict.number(),
+        Err(refusal) => refusal.number(),
+    }
+}
+
+// A line's number and answer; a question adds free and blocked, and a cut the count found and what the slip was answered.
 pub fn line_text(heap: Global, number: usize, answer: &Answer) -> Result<String, AllocError>
     ensures { IfOk result (λ t. string_bytes t ≡ line_text number answer.now) }
 {
     match answer {
-        Ok(None) => format!(in heap; "{number} 0\n"),
-        Ok(Some(held)) => {
+        Answer::Done => format!(in heap; "{number} 0\n"),
+        Answer::Amounts(held) => {
             let free = held.free;
             let blocked = held.blocked;
             format!(in heap; "{number} 0 {free} {blocked}\n")
         }
-        Err(fault) => {
-            let refusal = fault.number();
+        Answer::Reopened(opened) => reopened_text(heap, number, opened),
+        Answer::Refused(refusal) => {
+            let refusal = refusal.number();
             format!(in heap; "{number} {refusal}\n")
         }
+        Answer::Unasked => format!(in heap; "{number} -\n"),
+    }
+}
+
+fn reopened_text(heap: Global, number: usize, opened: &Opened) -> Result<String, AllocError>
+    ensures { IfOk result (λ t. string_bytes t ≡ line_text number (Reopened opened.now)) }
+{
+    let answer = opening_number(opened.answer);
+    let found = opened.found;
+    match opened.presented {
+        Some(presented) => {
+            let presented = presented_number(presented);
+            format!(in heap; "{number} {answer} {found} {presented}\n")
+        }
+        None => format!(in heap; "{number} {answer} {found} -\n"),
     }
 }
 

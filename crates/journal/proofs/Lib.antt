@@ -1,2 +1,5 @@
 pub mod Survives
 pub mod Trips
+pub mod Blanks
+pub mod Fresh
+pub mod Tracks

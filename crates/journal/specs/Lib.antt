@@ -1,3 +1,4 @@
 pub mod Journal
 pub mod Blocks
 pub mod Reading
+pub mod Format

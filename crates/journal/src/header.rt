@@ -8,7 +8,7 @@ use answers::Refusal;
 use little_endian::LittleEndian;
 
 // As many pairs of a record and a mark as a journal may have.
-const MOST_PAIRS: u32 = 32767;
+pub(crate) const MOST_PAIRS: u32 = 32767;
 
 #[derive(Clone, Copy, Debug, PartialEq, Eq)]
 pub struct Header {

@@ -43,7 +43,7 @@ abbrev Stops : List ℕ → Type 0
 Stops [] = Unit {0}
 Stops (c ∷ cs) = is_digit c ≡ false
 
-stops : (ns : List ℕ) → Stops (fields_text ns)
+pub stops : (ns : List ℕ) → Stops (fields_text ns)
 stops [] = tt
 stops (n ∷ ns) = refl
 
@@ -56,7 +56,7 @@ word-digits : (ds ys : List ℕ) → AllDigits ds → 0 < length ds → Stops ys
 word-digits [] ys a h s = absurd (omega arith)
 word-digits (d ∷ ds) ys a h s = let i = leading-all ds ys a.1 s in search (rules, take_at (d ∷ ds) ys, drop_at (d ∷ ds) ys)
 
-field-complete : (most n : ℕ) (ys : List ℕ) → most < 2 ^ 64 → n ≤ most → Stops ys
+pub field-complete : (most n : ℕ) (ys : List ℕ) → most < 2 ^ 64 → n ≤ most → Stops ys
     → (field_of most (32 ∷ (decimal n ++ ys)) ≡ Some n) × (past (32 ∷ (decimal n ++ ys)) ≡ ys)
 unfolding field_of past
 field-complete most n ys h l s =
@@ -72,7 +72,7 @@ Within [] (m ∷ ms) = ⊥
 Within (n ∷ ns) [] = ⊥
 Within (n ∷ ns) (m ∷ ms) = (n ≤ m) × Within ns ms
 
-then-some : {X Y : Type 0} (o : Option X) (f : X → Option Y) (y : Y) → then o f ≡ Some y → (x : X) × (o ≡ Some x) × (f x ≡ Some y)
+pub then-some : {X Y : Type 0} (o : Option X) (f : X → Option Y) (y : Y) → then o f ≡ Some y → (x : X) × (o ≡ Some x) × (f x ≡ Some y)
 then-some (Some x) f y e = (x, refl, e)
 then-some None f y e = absurd (cc)
 

@@ -1,4 +1,5 @@
 pub mod Num
 pub mod Feeding
 pub mod Fields
+pub mod Cuts
 pub mod Reading

@@ -8,10 +8,11 @@ use Rattle.instruction.specs.Kinds.{code_of, kind_at}
 use Rattle.instruction.specs.Layout.{Fit}
 use Rattle.script.specs.declared.Position.{Position}
 use Rattle.script.specs.declared.Request.{Request}
-use Rattle.script.specs.declared.Request.TheVariants.{Instruct, Register, Cash}
+use Rattle.script.specs.declared.Request.TheVariants.{Instruct, Register, Cash, Cut}
 use Rattle.script.specs.Words.{is_letter, Word, letter, first_word, after}
-use Rattle.script.specs.Requests.{then, fields_of, widths, filled, instruction_of, position_of, letter_of, kind_for, request_for, request_after, request_of, listed, request_in, used, unused, fields_text, text_as, position_text, written, WellFormed, ReadsLine}
-use Rattle.script.proofs.Fields.{Seen, seen, first-letter, Within, fields-sound, fields-complete, within-at}
+use Rattle.script.specs.Requests.{then, fields_of, widths, filled, instruction_of, position_of, cut_of, letter_of, kind_for, request_for, request_after, request_of, listed, request_in, used, unused, fields_text, text_as, position_text, cut_text, written, WellFormed, ReadsLine}
+use Rattle.script.proofs.Fields.{Seen, seen, first-letter, Within, fields-sound, fields-complete, within-at, then-some}
+use Rattle.script.proofs.Cuts.{cut-sound, cut-complete}
 
 -- the numbers at as many places as there are limits are all that are within the limits
 abbrev picked : ℕ → List ℕ → List ℕ → List ℕ
@@ -97,20 +98,29 @@ made c ms bs f make q (Some ns) s h e =
     subst (Good (c ∷ bs)) z (subst (λ l. Good (c ∷ l) (make (f ns))) (sym p.0) (h ns p.1))
 made c ms bs f make q None s h e = absurd (cc)
 
-for-good : (c : ℕ) (bs : List ℕ) (q : Request) (r k : Bool) (o : Option Kind) → eqb c 81 ≡ r → eqb c 75 ≡ k → kind_for c ≡ o
-    → cond r (then (position_of bs) (λ p. Some (Register p))) (cond k (then (position_of bs) (λ p. Some (Cash p))) (then o (λ k. then (instruction_of k bs) (λ i. Some (Instruct i))))) ≡ Some q
+cut-good : (bs : List ℕ) (q : Request) → then (cut_of bs) (λ x. Some (Cut x)) ≡ Some q → Good (67 ∷ bs) q
+cut-good bs q e =
+    let p = then-some (cut_of bs) (λ x. Some (Cut x)) q e in
+    let s = cut-sound bs p.0 p.1 in
+    let z : Cut p.0 ≡ q = cc in
+    subst (Good (67 ∷ bs)) z (s.0, ap (λ l. 67 ∷ l) s.1)
+
+for-good : (c : ℕ) (bs : List ℕ) (q : Request) (r k t : Bool) (o : Option Kind) → eqb c 81 ≡ r → eqb c 75 ≡ k → eqb c 67 ≡ t → kind_for c ≡ o
+    → cond r (then (position_of bs) (λ p. Some (Register p))) (cond k (then (position_of bs) (λ p. Some (Cash p)))
+    (cond t (then (cut_of bs) (λ x. Some (Cut x))) (then o (λ k. then (instruction_of k bs) (λ i. Some (Instruct i)))))) ≡ Some q
     → Good (c ∷ bs) q
-for-good c bs q true k o x y z e =
+for-good c bs q true k t o x y w z e =
     subst (λ d. Good (d ∷ bs) q) (sym (eqb-true c 81 x)) (made 81 (65535 ∷ 65535 ∷ []) bs pair (λ p. Register p) q _ (λ ns. fields-sound _ bs ns narrow-pair) (pair-good 81) e)
-for-good c bs q false true o x y z e =
+for-good c bs q false true t o x y w z e =
     subst (λ d. Good (d ∷ bs) q) (sym (eqb-true c 75 y)) (made 75 (65535 ∷ 65535 ∷ []) bs pair (λ p. Cash p) q _ (λ ns. fields-sound _ bs ns narrow-pair) (pair-good 75) e)
-for-good c bs q false false (Some k) x y z e =
+for-good c bs q false false true o x y w z e = subst (λ d. Good (d ∷ bs) q) (sym (eqb-true c 67 w)) (cut-good bs q e)
+for-good c bs q false false false (Some k) x y w z e =
     let own : c ≡ letter_of k = search rules in
     subst (λ d. Good (d ∷ bs) q) (sym own) (made (letter_of k) (widths k) bs (filled k) (λ i. Instruct i) q _ (λ ns. fields-sound _ bs ns (narrow k)) (filled-good k) e)
-for-good c bs q false false None x y z e = absurd (cc)
+for-good c bs q false false false None x y w z e = absurd (cc)
 
 after-good : (bs : List ℕ) (q : Request) (w : Word) → Seen bs w → request_after w (after bs) ≡ Some q → Good bs q
-after-good bs q (letter c) s e = subst (λ l. Good l q) (sym s) (for-good c (after bs) q (eqb c 81) (eqb c 75) (kind_for c) refl refl refl e)
+after-good bs q (letter c) s e = subst (λ l. Good l q) (sym s) (for-good c (after bs) q (eqb c 81) (eqb c 75) (eqb c 67) (kind_for c) refl refl refl refl e)
 after-good bs q w s e = search rules
 
 -- each well-formed request is read off its text
@@ -137,6 +147,7 @@ request-complete (Register p) w =
     at-letter 81 (position_text p) refl ∙ ap (λ o. then (then o (λ ns. Some (pair ns))) (λ p. Some (Register p))) (pair-complete p w)
 request-complete (Cash p) w =
     at-letter 75 (position_text p) refl ∙ ap (λ o. then (then o (λ ns. Some (pair ns))) (λ p. Some (Cash p))) (pair-complete p w)
+request-complete (Cut x) w = at-letter 67 (cut_text x) refl ∙ ap (λ o. then o (λ x. Some (Cut x))) (cut-complete x w)
 
 reads_as : (bs : List ℕ) (o : Option Request) → request_of bs ≡ o → ReadsLine bs (listed o)
 reads_as bs (Some q) e = after-good bs q (first_word bs) (seen bs) e

@@ -1,3 +1,4 @@
+pub mod Padded
 pub mod Words
 pub mod Numerals
 pub mod Feeds

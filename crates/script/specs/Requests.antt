@@ -1,5 +1,5 @@
 -- The lines of a script. Assumes nothing.
-use Rattle.std.specs.Prelude.{◌≡◌, ℕ, ◌^◌, ◌<◌, cond, List, [], ◌∷◌, length, Some, None, Ok, Err, decimal, Option, Result, ◌==◌, ◌≢◌, slice_index}
+use Rattle.std.specs.Prelude.{◌≡◌, ℕ, zero, suc, ◌^◌, ◌<◌, ◌≤◌, cond, List, [], ◌∷◌, length, Some, None, Ok, Err, decimal, Option, Result, ◌==◌, ◌≢◌, slice_index}
 use Rattle.std.specs.Bool.{then_some}
 use Rattle.std.specs.List.{flat_map, AllByRecursion}
 use Rattle.answers.specs.declared.Refusal.{Refusal}
@@ -10,8 +10,9 @@ use Rattle.instruction.specs.declared.Instruction.{Instruction}
 use Rattle.instruction.specs.Kinds.{code_of, kind_at}
 use Rattle.instruction.specs.Layout.{Fit}
 use Rattle.script.specs.declared.Position.{Position}
+use Rattle.script.specs.declared.Cut.{Cut as PowerCut}
 use Rattle.script.specs.declared.Request.{Request}
-use Rattle.script.specs.declared.Request.TheVariants.{Instruct, Register, Cash}
+use Rattle.script.specs.declared.Request.TheVariants.{Instruct, Register, Cash, Cut}
 use Rattle.script.specs.Words.{Word, letter, digits, space, other, end, first_word, after}
 use Rattle.script.specs.Numerals.{numeral}
 
@@ -88,6 +89,16 @@ instruction_of k bs = then (fields_of (widths k) bs) (λ ns. Some (filled k ns))
 abbrev pub position_of : List ℕ → Option Position
 position_of bs = then (fields_of (65535 ∷ 65535 ∷ []) bs) (λ ns. Some (record { account = slice_index ns 0; item = slice_index ns 1 }))
 
+-- up to so many remains, and then the end of the line
+unfoldable pub remains_in : ℕ → List ℕ → Option (List ℕ)
+remains_in zero bs = ended bs []
+remains_in (suc n) bs =
+    cond (length bs == 0) (Some []) (then (field_of 255 bs) (λ r. then (remains_in n (past bs)) (λ rs. Some (r ∷ rs))))
+
+-- a number of calls, and up to eight remains
+abbrev pub cut_of : List ℕ → Option PowerCut
+cut_of bs = then (field_of 4294967295 bs) (λ q. then (remains_in 8 (past bs)) (λ rs. Some (record { calls = q; remains = rs })))
+
 -- the letters I, D, T, E, L, S and F of the kinds
 abbrev pub letter_of : Kind → ℕ
 letter_of Issue = 73
@@ -103,12 +114,13 @@ kind_for c =
     cond (c == 73) (Some Issue) (cond (c == 68) (Some PayIn) (cond (c == 84) (Some Enter) (cond (c == 69) (Some Earmark)
     (cond (c == 76) (Some Fund) (cond (c == 83) (Some Settle) (cond (c == 70) (Some Free) None))))))
 
--- the request of a letter and the fields after it; Q (81) asks for a register's position, K (75) for cash
+-- the request of a letter and the fields after it; Q (81) asks for a register's position, K (75) for cash, and C (67) for a cut
 abbrev pub request_for : ℕ → List ℕ → Option Request
 request_for c bs =
     cond (c == 81) (then (position_of bs) (λ p. Some (Register p)))
     (cond (c == 75) (then (position_of bs) (λ p. Some (Cash p)))
-    (then (kind_for c) (λ k. then (instruction_of k bs) (λ i. Some (Instruct i)))))
+    (cond (c == 67) (then (cut_of bs) (λ x. Some (Cut x)))
+    (then (kind_for c) (λ k. then (instruction_of k bs) (λ i. Some (Instruct i))))))
 
 abbrev pub request_after : Word → List ℕ → Option Request
 request_after (letter l) bs = request_for l bs
@@ -159,11 +171,19 @@ text_as None i = []
 abbrev pub position_text : Position → List ℕ
 position_text p = fields_text (p.account ∷ p.item ∷ [])
 
+-- the bytes of the remains, in their order
+abbrev pub remains_of : PowerCut → List ℕ
+remains_of x = x.remains
+
+abbrev pub cut_text : PowerCut → List ℕ
+cut_text x = fields_text (x.calls ∷ remains_of x)
+
 -- the one text of a request: its letter, and its fields
 abbrev pub written : Request → List ℕ
 written (Instruct i) = text_as (kind_at i.kind) i
 written (Register p) = 81 ∷ position_text p
 written (Cash p) = 75 ∷ position_text p
+written (Cut x) = 67 ∷ cut_text x
 
 -- an instruction of one of the kinds, with 0 in each field that the kind does not use
 pub record OfAKind (i : Instruction) : Type 0 where
@@ -172,11 +192,18 @@ pub record OfAKind (i : Instruction) : Type 0 where
   pub zeros : AllByRecursion (λ n. n ≡ 0) (unused which i)
   pub fit : Fit i
 
+-- a number of calls, and at most eight remains, each a byte
+pub record IsCut (x : PowerCut) : Type 0 where
+  pub calls : x.calls < 2 ^ 32
+  pub few : length (remains_of x) ≤ 8
+  pub bytes : AllByRecursion (λ r. r < 2 ^ 8) (remains_of x)
+
 -- the requests that a line can make
 abbrev pub WellFormed : Request → Type 0
 WellFormed (Instruct i) = OfAKind i
 WellFormed (Register p) = (p.account < 2 ^ 16) × (p.item < 2 ^ 16)
 WellFormed (Cash p) = (p.account < 2 ^ 16) × (p.item < 2 ^ 16)
+WellFormed (Cut x) = IsCut x
 
 -- what reading a line answers: the well-formed request that the line is the text of, or that there is none
 abbrev pub ReadsLine : List ℕ → Result Request Refusal → Type 0

@@ -12,10 +12,13 @@ ghost use Rattle.std.specs.declared.num.TryFromIntError.{TryFromIntError};
 ghost use Rattle.script.specs.Words.{is_digit, word, first_word, word_length};
 ghost use Rattle.script.specs.Numerals.{numeral, ReadsNumber};
 ghost use Rattle.script.specs.Feeds.{in_line, first_line, after_line, lines_of, lines_left, Splits};
-ghost use Rattle.script.specs.Requests.{field_of, past, then, ended, on_trade, instruction_of, position_of, kind_for, request_of, request_in, ReadsLine};
+ghost use Rattle.script.specs.Requests.{field_of, past, then, ended, on_trade, instruction_of, position_of, remains_in, cut_of, kind_for, request_of, request_in, ReadsLine};
+
+mod remains;
 
 use answers::Refusal;
 use instruction::{Instruction, Kind};
+pub use remains::Remains;
 use std::num::TryFromIntError;
 
 // A part of a line. A letter is one of A to Z, and digits are as many as follow one another.
@@ -43,6 +46,16 @@ trait Width: TryFrom<u64, Error = TryFromIntError> {
     // A number becomes a value exactly where the type holds it.
     ghost holds: { (n : ℕ) (r : Result Self TryFromIntError) → Self.try_from_gives n r
         → option_map number (result_ok r) ≡ then_some (nat_le n most) n };
+}
+
+impl Width for u8 {
+    ghost most = { 255 };
+
+    ghost number = { λ n. n };
+
+    ghost narrow = { lit< tt };
+
+    ghost holds = { Prim.search rules };
 }
 
 impl Width for u16 {
@@ -206,12 +219,20 @@ pub enum Request {
     Instruct(Instruction),
     Register(Position),
     Cash(Position),
+    Cut(Cut),
 }
 
 #[derive(Clone, Copy)]
 pub struct Position {
     pub account: u16,
     pub item: u16,
+}
+
+// A cut of the power: the number of calls and the remains that the restart after it is given.
+#[derive(Clone, Copy)]
+pub struct Cut {
+    pub calls: u32,
+    pub remains: Remains,
 }
 
 // A line of any form but the listed ones is refused.
@@ -232,6 +253,7 @@ fn read_request(line: &[u8]) -> Option<Request>
     let request = match *letter as char {
         'Q' => Request::Register(read_position(&mut tokens)?),
         'K' => Request::Cash(read_position(&mut tokens)?),
+        'C' => Request::Cut(read_cut(&mut tokens)?),
         letter => Request::Instruct(read_instruction(kind_of(letter)?, &mut tokens)?),
     };
     tokens.rest.is_empty().then_some(request)
@@ -296,4 +318,24 @@ fn read_position(tokens: &mut Tokens) -> Option<Position>
         account: tokens.field()?,
         item: tokens.field()?,
     })
+}
+
+fn read_cut(tokens: &mut Tokens) -> Option<Cut>
+    ensures { cut_of tokens.old.rest.now ≡ then result (ended tokens.new.rest.now) }
+{
+    Some(Cut {
+        calls: tokens.field()?,
+        remains: read_remains(tokens)?,
+    })
+}
+
+// All that is left of the line, which may be nothing.
+fn read_remains(tokens: &mut Tokens) -> Option<Remains>
+    ensures { remains_in 8 tokens.old.rest.now ≡ then result (ended tokens.new.rest.now) }
+{
+    let mut remains = Remains::new();
+    while !tokens.rest.is_empty() {
+        remains.push(tokens.field()?)?;
+    }
+    Some(remains)
 }

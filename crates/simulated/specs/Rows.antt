@@ -1,8 +1,9 @@
 -- The simulated image has 514 bytes a block. In such a row byte 0 is 0 if the block is readable, its 256 kept bytes
 -- follow, byte 257 is 0 if the block is not loose, and its 256 newer bytes follow. Assumes nothing.
-use Rattle.std.specs.Prelude.{◌≡◌, ℕ, zero, suc, ◌+◌, Bool, cond, not, List, ◌∷◌, ◌++◌, take, drop, replicate, Some, Ok, Err, Option, ◌==◌, slice_index}
-use Rattle.device.specs.Calls.{Answer}
+use Rattle.std.specs.Prelude.{◌≡◌, ℕ, zero, suc, ◌+◌, Bool, cond, not, List, ◌∷◌, ◌++◌, length, take, drop, replicate, Some, Ok, Err, Option, ◌==◌, slice_index}
+use Rattle.device.specs.Calls.{Answer, admitted, if_ok, spend_answer}
 use Rattle.device.specs.Images.{blocks, row, put, kept, readable, held, EachRow}
+use Rattle.device.specs.Traces.{DeviceCall, reading, writing, syncing, restarting}
 
 abbrev pub newer : List ℕ → List ℕ
 newer r = take 256 (drop 258 r)
@@ -60,3 +61,10 @@ ImageSynced (Err e) xs ys = ys ≡ xs
 -- the image ys after a restart of xs
 abbrev pub ImageRestarted : List ℕ → List ℕ → List ℕ → Type 0
 ImageRestarted xs remains ys = EachRow 514 (restarted xs remains) (blocks 514 xs) xs ys
+
+-- the image ys after a call of a device with the image xs and so many calls left
+abbrev pub ImageAfter : List ℕ → ℕ → DeviceCall → List ℕ → Type 0
+ImageAfter xs left (reading b room) ys = ys ≡ xs
+ImageAfter xs left (writing b bytes) ys = ys ≡ if_ok (admitted (blocks 514 xs) left b (length bytes)) (image_written xs b bytes) xs
+ImageAfter xs left syncing ys = ImageSynced (spend_answer left) xs ys
+ImageAfter xs left (restarting calls remains) ys = ImageRestarted xs remains ys

@@ -1,11 +1,8 @@
 // A device simulated over an image, which says what a cut of the power leaves of each block that was not synced.
 #![tactic(auto)]
 
-ghost use Rattle.std.specs.Prelude.{◌≡◌};
-ghost use Rattle.device.specs.Calls.{Read, Write, Sync, if_ok};
-ghost use Rattle.device.specs.Power.{Restart};
-ghost use Rattle.simulated.specs.Rows.{image_written, ImageSynced, ImageRestarted, is_loose, shown};
-ghost use Rattle.simulated.specs.Meaning.{image_of, meaning};
+ghost use Rattle.simulated.specs.Rows.{is_loose, shown};
+ghost use Rattle.simulated.specs.Meaning.{meaning, Makes};
 ghost use Rattle.device.proofs.Meaning.{bounded};
 ghost use Rattle.simulated.specs.RowLaws.{shows};
 ghost use Rattle.std.proofs.Common.{rules};
@@ -24,33 +21,26 @@ use sweeps::restart_all;
 impl Device for Simulated {
     ghost medium = { meaning };
 
+    ghost makes = { Makes };
+
     ghost bounds = { λ d. bounded 514 shown is_loose shows d.rows.image.items d.rows.left d.rows.calls d.rows.bytes };
 
     fn size(&self) -> u32 {
         self.rows.size
     }
 
-    fn read(&mut self, block: u32, buffer: &mut [u8]) -> Result<(), Fault>
-        ensures call { Read (meaning self.old) (meaning self.new) block buffer.old buffer.new result }
-        ensures image { image_of self.new ≡ image_of self.old }
-    {
+    fn read(&mut self, block: u32, buffer: &mut [u8]) -> Result<(), Fault> {
         self.rows.read::<Halves>(block, buffer)
     }
 
-    fn write(&mut self, block: u32, bytes: &[u8]) -> Result<(), Fault>
-        ensures call { Write (meaning self.old) (meaning self.new) block bytes.now result }
-        ensures image { image_of self.new ≡ if_ok result (image_written (image_of self.old) block bytes.now) (image_of self.old) }
-    {
+    fn write(&mut self, block: u32, bytes: &[u8]) -> Result<(), Fault> {
         let loose = self.rows.row(block).is_some_and(row_is_loose);
         self.rows.write::<Halves>(block, bytes)?;
         self.loose.note(loose, block);
         Ok(())
     }
 
-    fn sync(&mut self) -> Result<(), Fault>
-        ensures call { Sync (meaning self.old) (meaning self.new) result }
-        ensures image { ImageSynced result (image_of self.old) (image_of self.new) }
-    {
+    fn sync(&mut self) -> Result<(), Fault> {
         self.rows.spend()?;
         self.loose.sync(&mut self.rows);
         self.loose.clear(*self.rows.image.allocator());
@@ -61,14 +51,9 @@ impl Device for Simulated {
 impl PoweredDevice for Simulated {
     ghost most = { 4294967295 };
 
-    ghost revives = { λ d _ remains e. ImageRestarted (image_of d) remains (image_of e) };
-
     ghost limit = { Prim.search rules };
 
-    fn restart(&mut self, calls: u32, remains: &[u8])
-        ensures call { Restart (meaning self.old) (meaning self.new) calls 4294967295 }
-        ensures kind { ImageRestarted (image_of self.old) remains.now (image_of self.new) }
-    {
+    fn restart(&mut self, calls: u32, remains: &[u8]) {
         self.rows.left = calls;
         restart_all(&mut self.rows, remains);
         self.loose.clear(*self.rows.image.allocator());

@@ -17,10 +17,16 @@ pub struct Simulated {
 }
 
 impl Simulated {
-    // A device over an image of any length and any bytes, with a number of calls.
+    ghost use Rattle.device.specs.Traces.{Fixed, ReadsKeep};
+    ghost use Rattle.simulated.specs.Meaning.{image_of, state_of, Makes};
+
+    // A device over an image of any length and any bytes, with a number of calls. What is said of a call to
+    // such a device leaves nothing open of its image and the calls left.
     pub fn new(image: Vec<u8>, calls: u32) -> Simulated
         ensures image { result.rows.image ≡ image }
         ensures left { result.rows.left ≡ calls }
+        ensures fixed { Fixed state_of Makes }
+        ensures reads { ReadsKeep image_of Makes }
     {
         let rows = Imaged::new(image, calls);
         let loose = LooseBlocks::of_rows(&rows);

@@ -1,5 +1,5 @@
 -- Each row of the marked trials. Assumes nothing.
-use Rattle.std.proofs.Common.{◌≡◌, ℕ, ◌<◌, eqb, refl, ap, arith}
+use Rattle.std.proofs.Common.{◌≡◌, ℕ, ◌<◌, false, eqb, refl, ap, arith}
 use Rattle.std.proofs.lemmas.Bool.{eq-eqb, lt-leb}
 use Rattle.answers.specs.Numbers.{answer_number}
 use Rattle.instruction.specs.declared.Kind.TheVariants.{Settle}
@@ -12,6 +12,7 @@ use Rattle.rulebook.specs.Rules.{Rulebook, Standing, empty, answer}
 use Rattle.book.proofs.Totals.{total-credit}
 use Rattle.balances.specs.Rows.{balances_kind}
 use Rattle.lots.specs.Owners.{lots_kind}
+use Rattle.journal.specs.Blocks.{zeros, is_mark}
 use Rattle.trials.specs.Marked.{on_trade, entering, MarkedTrials}
 
 nothing-in-all : (i : ℕ) → total nothing i ≡ 0
@@ -49,6 +50,9 @@ same-parties h item currency trade quantity amount l = rw (lt-leb 128 trade l)
 settle-too-early : (h : Rulebook) (s : Standing) (t : ℕ) → t < 128 → s.state t ≡ Earmarked → answer_number (answer h s (on_trade Settle t)) ≡ 35
 settle-too-early h s t l e = rw (lt-leb 128 t l, e)
 
+zeros-no-mark : (k : ℕ) → is_mark k zeros ≡ false
+zeros-no-mark k = grind arith
+
 pub marked-trials : MarkedTrials
 marked-trials = record {
   block-of-nothing = block-of-nothing;
@@ -59,4 +63,6 @@ marked-trials = record {
   earmark-bytes = refl;
   same-parties = same-parties;
   settle-too-early = settle-too-early;
+  mark-bytes = refl;
+  zeros-no-mark = zeros-no-mark;
 }

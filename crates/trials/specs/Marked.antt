@@ -1,5 +1,5 @@
 -- The trials whose results are proved, a row each. Assumes nothing.
-use Rattle.std.specs.Prelude.{◌≡◌, ℕ, ◌<◌, List, ◌∷◌, ◌++◌, replicate}
+use Rattle.std.specs.Prelude.{◌≡◌, ℕ, ◌<◌, false, List, ◌∷◌, ◌++◌, replicate}
 use Rattle.answers.specs.Numbers.{answer_number}
 use Rattle.instruction.specs.declared.Kind.{Kind}
 use Rattle.instruction.specs.declared.Kind.TheVariants.{Enter, Earmark, Settle}
@@ -12,6 +12,7 @@ use Rattle.balances.specs.Rows.{balances_kind}
 use Rattle.lots.specs.Owners.{lots_kind}
 use Rattle.rulebook.specs.declared.State.TheVariants.{Earmarked}
 use Rattle.rulebook.specs.Rules.{Rulebook, Standing, empty, answer}
+use Rattle.journal.specs.Blocks.{zeros, mark_bytes, is_mark}
 use Rattle.trials.specs.declared.Outcomes.{Outcomes}
 
 -- an instruction of a kind that uses its trade only
@@ -25,6 +26,10 @@ entering seller buyer item currency trade quantity amount =
 -- Earmark of trade 7: 04, eleven zeros, 07, nineteen zeros
 abbrev pub earmark7 : List ℕ
 earmark7 = 4 ∷ (replicate 11 0 ++ (7 ∷ replicate 19 0))
+
+-- the mark of entry 0: four zeros, four times FF, zeros
+abbrev pub first_mark : List ℕ
+first_mark = replicate 4 0 ++ (replicate 4 255 ++ replicate 248 0)
 
 pub record MarkedTrials : Type 0 where
   -- fresh balances: to block 1 is more than is free
@@ -40,7 +45,20 @@ pub record MarkedTrials : Type 0 where
   pub same-parties : (h : Rulebook) (item currency trade quantity amount : ℕ) → trade < 128 → answer_number (answer h empty (entering 70 70 item currency trade quantity amount)) ≡ 33
   -- a trade that is earmarked and not funded is not settled
   pub settle-too-early : (h : Rulebook) (s : Standing) (t : ℕ) → t < 128 → s.state t ≡ Earmarked → answer_number (answer h s (on_trade Settle t)) ≡ 35
+  pub mark-bytes : mark_bytes 0 ≡ first_mark
+  -- a block of zeros is the good mark of no entry
+  pub zeros-no-mark : (k : ℕ) → is_mark k zeros ≡ false
 
--- what the code answers to one trial of each row that a fresh book, ledger or instruction can show
+-- what the code answers to one trial of each row that a fresh book, ledger, instruction or mark can show
 abbrev pub expected : Outcomes
-expected = record { block_of_nothing = 25; credit_to_ceiling = 0; credit_past_ceiling = 24; credit_of_a_lot = 0; credit_of_two = 24; earmark_bytes = earmark7; same_parties = 33 }
+expected = record {
+  block_of_nothing = 25;
+  credit_to_ceiling = 0;
+  credit_past_ceiling = 24;
+  credit_of_a_lot = 0;
+  credit_of_two = 24;
+  earmark_bytes = earmark7;
+  same_parties = 33;
+  first_mark = first_mark;
+  zeros_are_a_mark = false;
+}

@@ -1,4 +1,4 @@
-// Trials with known results, made on the engine's own books, ledger and instructions.
+// Trials with known results, made on the engine's own books, ledger, instructions and marks.
 #![tactic(auto)]
 
 ghost use Rattle.std.specs.Prelude.{◌≡◌};
@@ -12,6 +12,7 @@ use answers::answer_number;
 use balances::Balances;
 use book::Book;
 use instruction::{Instruction, Kind};
+use journal::{is_good_mark, mark_block};
 use ledger::Ledger;
 use lots::Lots;
 
@@ -25,6 +26,8 @@ pub struct Outcomes {
     pub credit_of_two: u8,
     pub earmark_bytes: [u8; 32],
     pub same_parties: u8,
+    pub first_mark: [u8; 256],
+    pub zeros_are_a_mark: bool,
 }
 
 fn block_of_nothing() -> u8
@@ -81,7 +84,7 @@ fn same_parties() -> u8
     }
 }
 
-// Makes each trial that a fresh book, ledger or instruction can show, and stands for the theorem of all of them.
+// Makes each trial that a fresh book, ledger, instruction or mark can show, and stands for the theorem of all of them.
 pub fn marked_trials() -> Outcomes
     ensures outcomes { result ≡ expected }
     ensures rows { MarkedTrials }
@@ -95,5 +98,7 @@ pub fn marked_trials() -> Outcomes
         credit_of_two: credit_of(2),
         earmark_bytes: earmark_bytes(),
         same_parties: same_parties(),
+        first_mark: mark_block(0),
+        zeros_are_a_mark: is_good_mark(&[0; 256], 0),
     }
 }

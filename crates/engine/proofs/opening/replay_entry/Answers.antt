@@ -5,6 +5,7 @@ use Rattle.rulebook.proofs.Givens.{accepted}
 use Rattle.ledger.specs.View.{rulebook, standing_of}
 use Rattle.ledger.proofs.Carried.{accepts}
 use Rattle.engine.proofs.Errors.{mapped}
+use Rattle.device.proofs.Traces.{read-on}
 use Rattle.engine.proofs.opening.replay_entry.Goals as goal
 
 pub returns-in_err-map_err-clause-books : goal.returns-in_err-map_err-clause-books
@@ -22,3 +23,12 @@ returns-clause-books g c =
     let x = c.in_ok-x.x in
     let is : c.instruct.result ≡ Ok tt = search rules in
     c.instruct.ensures.after.after ∙ accepted h s x (accepts x (answer h s x) (sym c.instruct.ensures.answer ∙ is))
+
+pub returns-in_err-x-clause-reads : goal.returns-in_err-x-clause-reads
+returns-in_err-x-clause-reads g c = read-on g.D.Device.makes c.read_mark.ensures.reads c.read_entry.ensures.reads
+
+pub returns-in_err-map_err-clause-reads : goal.returns-in_err-map_err-clause-reads
+returns-in_err-map_err-clause-reads g c = read-on g.D.Device.makes c.read_mark.ensures.reads c.read_entry.ensures.reads
+
+pub returns-clause-reads : goal.returns-clause-reads
+returns-clause-reads g c = read-on g.D.Device.makes c.read_mark.ensures.reads c.read_entry.ensures.reads

@@ -1,7 +1,8 @@
-use Rattle.std.proofs.Common.{ℕ, List, vec_items, ap, ◌∙◌, subst}
+use Rattle.std.proofs.Common.{ℕ, ◌-◌, List, vec_items, ap, ◌∙◌, subst}
+use Rattle.device.specs.Calls.{Answer, if_ok}
 use Rattle.device.specs.Images.{blocks, EachRow}
 use Rattle.device.proofs.Rows.{same_blocks}
-use Rattle.simulated.specs.Rows.{synced}
+use Rattle.simulated.specs.Rows.{synced, ImageSynced}
 use Rattle.simulated.proofs.SweepLaws.{lists-none, short-none, sync-holds, sync-firm}
 use Rattle.simulated.proofs.SimulatedDevice.sync.Goals as goal
 
@@ -22,13 +23,19 @@ returns c =
     let ys = c.sync.new.rows.image.items in
     let s = subst (λ (zs : List ℕ). EachRow 514 synced (blocks 514 zs) zs ys) (ap vec_items c.in_ok-spend.ensures.image)
     (subst (λ (n : ℕ). EachRow 514 synced n d.image.items ys) d.sized c.sync.ensures.image) in
+    let n = c.args.self.now.rows.left in
+    let answer = c.in_ok-spend.ensures.answer in
+    let left = c.sync.ensures.left ∙ c.in_ok-spend.ensures.left in
     record {
       call = record {
-        answer = c.in_ok-spend.ensures.answer;
-        left = c.sync.ensures.left ∙ c.in_ok-spend.ensures.left;
+        answer = answer;
+        left = left;
         size = same_blocks 514 xs ys s.len;
         holds = sync-holds xs ys s;
         loose = sync-firm xs ys s;
       };
-      image = s;
+      kind = record {
+        image = subst (λ (r : Answer). ImageSynced r xs ys) answer s;
+        left = left ∙ ap (λ (r : Answer). if_ok r (n - 1) n) answer;
+      };
     }

@@ -30,5 +30,5 @@ returns c =
         loose = restart-firm xs ys rem s;
         left = search rules;
       };
-      kind = s;
+      kind = record { image = s; left = search rules };
     }

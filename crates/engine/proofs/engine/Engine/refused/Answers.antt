@@ -1,4 +1,4 @@
 use Rattle.engine.proofs.engine.Engine.refused.Goals as goal
 
-pub returns : goal.returns
-returns g c = cc
+pub returns-clause-refused : goal.returns-clause-refused
+returns-clause-refused g c = cc

@@ -1,0 +1,8 @@
+use Rattle.battery.proofs.Kind.{fixed, reads}
+use Rattle.battery.proofs.state.Battery.new.Goals as goal
+
+pub returns-clause-fixed : goal.returns-clause-fixed
+returns-clause-fixed c = fixed
+
+pub returns-clause-reads : goal.returns-clause-reads
+returns-clause-reads c = reads

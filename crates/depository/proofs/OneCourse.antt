@@ -1,0 +1,134 @@
+-- Over a device of which nothing is left open, calls have one course, and so one list of answers.
+use Rattle.std.proofs.Common.{◌≡◌, ℕ, zero, suc, ◌<◌, ◌≤◌, List, length, get_or, None, Ok, Err, Option, sym, ap, ◌∙◌, subst, ext_get_or, arith}
+use Rattle.instruction.specs.declared.Instruction.{Instruction}
+use Rattle.book.specs.Holdings.{Holdings}
+use Rattle.rulebook.specs.Terms.{Side}
+use Rattle.rulebook.specs.Rules.{Rulebook}
+use Rattle.device.specs.Medium.{Medium}
+use Rattle.device.specs.Calls.{Answer}
+use Rattle.device.specs.Traces.{DeviceCall, restarting, Traced}
+use Rattle.device.proofs.Traces.{traced-fixed, traced-reads}
+use Rattle.journal.specs.Blocks.{header_bytes}
+use Rattle.journal.specs.Format.{format_calls}
+use Rattle.journal.specs.Journal.{enter_answer}
+use Rattle.engine.specs.declared.slip.Contents.{Contents}
+use Rattle.engine.specs.View.{View}
+use Rattle.engine.specs.Opening.{header_for}
+use Rattle.engine.specs.Instructing.{checked, LeftBy}
+use Rattle.engine.specs.Tracing.{instruct_calls}
+use Rattle.depository.specs.declared.calls.Reply.{Reply}
+use Rattle.depository.specs.declared.calls.Reply.TheVariants.{Instructed, Misfit}
+use Rattle.depository.specs.Orders.{Order, to_instruct, to_close, to_restart, to_open, to_ask}
+use Rattle.depository.specs.Moments.{Phase, running, shut, Moment, at}
+use Rattle.depository.specs.Calling.{Leads, Does}
+use Rattle.depository.specs.Handling.{medium_in, Handled}
+use Rattle.depository.proofs.Fixing.{Settled}
+use Rattle.depository.specs.Law.{Course, Survives}
+
+-- but for the device, what an instruction leaves is fixed
+view-one : (c w : Answer) (x : Instruction) (v v₁ v₂ : View) → LeftBy c w x v v₁ → LeftBy c w x v v₂ → v₁.medium ≡ v₂.medium → v₁ ≡ v₂
+view-one (Err f) w x v v₁ v₂ one two e = one ∙ sym two
+view-one (Ok u) (Ok t) x v v₁ v₂ one two e =
+    let mode = one.mode ∙ sym two.mode in
+    let standing = one.standing ∙ sym two.standing in
+    let pairs = one.pairs ∙ sym two.pairs in
+    let found = one.found ∙ sym two.found in
+    let last = one.last ∙ sym two.last in
+    let count = one.count ∙ sym two.count in
+    λ i. record { mode = mode i; medium = e i; standing = standing i; pairs = pairs i; found = found i; last = last i; count = count i }
+view-one (Ok u) (Err f) x v v₁ v₂ one two e =
+    let mode = one.mode ∙ sym two.mode in
+    let standing = one.standing ∙ sym two.standing in
+    let pairs = one.pairs ∙ sym two.pairs in
+    let found = one.found ∙ sym two.found in
+    let last = one.last ∙ sym two.last in
+    let count = one.count ∙ sym two.count in
+    λ i. record { mode = mode i; medium = e i; standing = standing i; pairs = pairs i; found = found i; last = last i; count = count i }
+
+module _ {D S I : Type 0} (makes : D → DeviceCall → D → Type 0) (means : D → Medium) (seen : D → S) (image : D → I) (z : Settled makes means seen image) (h : Rulebook) (most : ℕ) where
+  -- two ends of a call
+  record Same (r r' : Reply) (b b' : Moment) (e e' : D) : Type 0 where
+    reply : r ≡ r'
+    moment : b ≡ b'
+    device : seen e ≡ seen e'
+
+  still : {r r₀ r' : Reply} {b b₀ b' : Moment} {e e' : D} → Leads r r₀ b b₀ → Leads r' r₀ b' b₀ → seen e ≡ seen e' → Same r r' b b' e e'
+  still l l' s = record { reply = l.answer ∙ sym l'.answer; moment = l.leads ∙ sym l'.leads; device = s }
+
+  kept-device : {d d' e e' : D} → e ≡ d → e' ≡ d' → seen d ≡ seen d' → seen e ≡ seen e'
+  kept-device p q s = ap seen p ∙ s ∙ ap seen (sym q)
+
+  -- devices that are seen alike mean the same where they came to moments
+  same-medium : {e e' : D} {m m' : Medium} → seen e ≡ seen e' → means e ≡ m → means e' ≡ m' → m ≡ m'
+  same-medium {e} {e'} s p q = sym p ∙ z.meaning e e' s ∙ q
+
+  module _ {r r' : Reply} {b b' : Moment} {d d' e e' : D} (s : seen d ≡ seen d') (t : means e ≡ medium_in b.phase) (t' : means e' ≡ medium_in b'.phase) where
+    running-one : (v : View) (l : Option Contents) (c : Order) → Does h most (at (running v) l) c r b → Does h most (at (running v) l) c r' b' → Handled makes h (running v) c d e → Handled makes h (running v) c d' e' → Same r r' b b' e e'
+    running-one v l (to_instruct x) one two k k' =
+        let q = traced-fixed makes seen z.fixed (instruct_calls h x v) d d' e e' k k' s in
+        let medium : one.after.medium ≡ two.after.medium = same-medium q (t ∙ ap (λ n. medium_in n.phase) one.leads.leads) (t' ∙ ap (λ n. medium_in n.phase) two.leads.leads) in
+        let after = view-one (checked h x v) (enter_answer v.medium v.count) x v one.after two.after one.engine.after two.engine.after medium in
+        record {
+          reply = one.leads.answer ∙ ap Instructed (one.engine.answer ∙ sym two.engine.answer) ∙ sym two.leads.answer;
+          moment = one.leads.leads ∙ ap (λ w. at (running w) l) after ∙ sym two.leads.leads;
+          device = q;
+        }
+    running-one v l to_close one two k k' = still one two (kept-device k k' s)
+    running-one v l (to_restart q remains) one two k k' = still one two (kept-device k k' s)
+    running-one v l to_open one two k k' = still one two (kept-device k k' s)
+    running-one v l (to_ask q) one two k k' = still one two (kept-device k k' s)
+
+    shut-one : (m : Medium) (books : Side → Holdings) (l : Option Contents) (c : Order) → Does h most (at (shut m books) l) c r b → Does h most (at (shut m books) l) c r' b' → Handled makes h (shut m books) c d e → Handled makes h (shut m books) c d' e'
+        → Same r r' b b' e e'
+    shut-one m books l (to_instruct x) one two k k' = still one two (kept-device k k' s)
+    shut-one m books l to_close one two k k' = still one two (kept-device k k' s)
+    shut-one m books l (to_restart q remains) one two k k' =
+        let p = z.fixed (restarting q remains) d d' e e' k k' s in
+        let medium : one.after ≡ two.after = same-medium p (t ∙ ap (λ n. medium_in n.phase) one.leads.leads) (t' ∙ ap (λ n. medium_in n.phase) two.leads.leads) in
+        record {
+          reply = one.leads.answer ∙ sym two.leads.answer;
+          moment = one.leads.leads ∙ ap (λ n. at (shut n books) l) medium ∙ sym two.leads.leads;
+          device = p;
+        }
+    shut-one m books l to_open one two k k' =
+        let i = traced-reads makes image z.reads k.0 k.1 d e k.2 in
+        let i' = traced-reads makes image z.reads k'.0 k'.1 d' e' k'.2 in
+        let left : (means e).left ≡ (means e').left = ap (λ n. n.left) (t ∙ ap (λ n. medium_in n.phase) (one.leads ∙ sym two.leads) ∙ sym t') in
+        still one two (z.whole e e' (i ∙ z.images d d' s ∙ sym i') left)
+    shut-one m books l (to_ask q) one two k k' = still one two (kept-device k k' s)
+
+    step-one : (a : Phase) (l : Option Contents) (c : Order) → Does h most (at a l) c r b → Does h most (at a l) c r' b' → Handled makes h a c d e → Handled makes h a c d' e' → Same r r' b b' e e'
+    step-one (running v) l c one two k k' = running-one v l c one two k k'
+    step-one (shut m books) l c one two k k' = shut-one m books l c one two k k'
+
+  module _ {a : Moment} {d d' : D} {cs : List Order} {rs rs' : List Reply} {b b' : Moment} {e e' : D} (s : seen d ≡ seen d') (one : Course makes means h most a d cs rs b e) (two : Course makes means h most a d' cs rs' b' e') where
+    -- both courses are at the same moment, and their devices are seen alike
+    record Alike (i : ℕ) : Type 0 where
+      moment : one.moment i ≡ two.moment i
+      device : seen (one.device i) ≡ seen (two.device i)
+
+    next-alike : (i : ℕ) → i < length cs → Alike i → Same (get_or rs i Misfit) (get_or rs' i Misfit) (one.moment (suc i)) (two.moment (suc i)) (one.device (suc i)) (two.device (suc i))
+    next-alike i lt k =
+        let c = get_or cs i to_close in
+        let does = subst (λ n. Does h most n c (get_or rs' i Misfit) (two.moment (suc i))) (sym k.moment) (two.leads i lt) in
+        let handled = subst (λ n. Handled makes h n.phase c (two.device i) (two.device (suc i))) (sym k.moment) (two.handled i lt) in
+        step-one k.device (one.means-it (suc i) (omega arith)) (two.means-it (suc i) (omega arith)) (one.moment i).phase (one.moment i).last c (one.leads i lt) does (one.handled i lt) handled
+
+    alike : (i : ℕ) → i ≤ length cs → Alike i
+    alike zero le = record { moment = one.first ∙ sym two.first; device = ap seen one.first-device ∙ s ∙ ap seen (sym two.first-device) }
+    alike (suc i) le =
+        let n = next-alike i (omega arith) (alike i (omega arith)) in
+        record { moment = n.moment; device = n.device }
+
+    replies-one : rs ≡ rs'
+    replies-one = ext_get_or Misfit rs rs' (one.answered ∙ sym two.answered) (λ i lt. (next-alike i (omega (arith, one.answered)) (alike i (omega (arith, one.answered)))).reply)
+
+  -- the answers to calls from a format on are fixed by what is seen of the device before it
+  pub one-answer : {pairs : ℕ} {d d' : D} {books : Side → Holdings} {cs : List Order} {rs rs' : List Reply} {b b' : Moment} {e e' : D} → seen d ≡ seen d'
+      → Survives makes means h most pairs d books cs rs b e → Survives makes means h most pairs d' books cs rs' b' e' → rs ≡ rs'
+  one-answer {pairs} {d} {d'} {books} {cs} {rs} {rs'} {b} {b'} {e} {e'} s one two =
+      let calls : Medium → List DeviceCall = λ m. format_calls (header_bytes (header_for h pairs)) pairs m.size m.left in
+      let also = subst (λ m. Traced makes (calls m) d' two.device) (sym (z.meaning d d' s)) two.formatted.trace in
+      let q = traced-fixed makes seen z.fixed (calls (means d)) d d' one.device two.device one.formatted.trace also s in
+      let start = subst (λ m. Course makes means h most (at (shut m books) None) two.device cs rs' b' e') (sym (z.meaning one.device two.device q)) two.course in
+      replies-one q one.course start

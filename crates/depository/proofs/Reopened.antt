@@ -1,0 +1,128 @@
+-- A close, a restart and an opening leave what the tally says.
+use Rattle.std.proofs.Common.{◌≡◌, ℕ, ◌+◌, ◌*◌, ◌<◌, ◌≤◌, true, false, cond, eqb, List, [], ◌∷◌, ◌++◌, length, Some, None, Ok, Option, sym, refl, ap, ◌∙◌, subst, inl, inr, arith}
+use Rattle.std.proofs.lemmas.List.{length_push}
+use Rattle.std.proofs.lemmas.Bool.{eq-eqb, ne_eqb, cond-true, cond-false}
+use Rattle.instruction.specs.declared.Instruction.{Instruction}
+use Rattle.rulebook.specs.Terms.{securities, cash}
+use Rattle.rulebook.specs.Rules.{Rulebook}
+use Rattle.device.specs.Medium.{Medium, Bounded}
+use Rattle.device.specs.Power.{Restart}
+use Rattle.journal.proofs.Survives.{restarting}
+use Rattle.engine.specs.declared.engine.Mode.{Mode}
+use Rattle.engine.specs.declared.engine.Mode.TheVariants.{Open, Down, Refused}
+use Rattle.engine.specs.declared.slip.Contents.{Contents}
+use Rattle.engine.specs.declared.slip.Verdict.TheVariants.{Same, Stands}
+use Rattle.engine.specs.Slips.{same_fields, judged, number_of as verdict_number}
+use Rattle.engine.specs.View.{View}
+use Rattle.engine.specs.Asking.{opening_answer, told_by}
+use Rattle.engine.specs.Opening.{opened, last_of}
+use Rattle.engine.specs.Lasting.{written_by}
+use Rattle.engine.proofs.Keeping.{WithOrWithout, Holding, FoundBy}
+use Rattle.engine.proofs.Finds.{last-more}
+use Rattle.engine.proofs.Openings.{opens}
+use Rattle.depository.specs.Slips.{latest}
+use Rattle.depository.specs.Calling.{slip_answer, owed_after}
+use Rattle.depository.specs.Tally.{Tally, fed_opening, found_to_stand, with_hand}
+use Rattle.depository.specs.Law.{Upholds, UpheldBy}
+use Rattle.depository.proofs.Kept.{Matches, Paired, OnDevice, InEngine, KeptBy}
+
+nothing-is-some : {X : Type 0} {x : X} → ◌≡◌ {A = Option X} None (Some x) → ⊥
+nothing-is-some e =
+    let z : ◌≡◌ {A = ℕ} 0 1 = cc in
+    omega arith
+
+same-self : (x : Instruction) → same_fields x x ≡ true
+same-self x =
+    rw (
+      eq-eqb x.kind x.kind refl,
+      eq-eqb x.account x.account refl,
+      eq-eqb x.counterparty x.counterparty refl,
+      eq-eqb x.item x.item refl,
+      eq-eqb x.currency x.currency refl,
+      eq-eqb x.trade x.trade refl,
+      eq-eqb x.quantity x.quantity refl,
+    ) (eq-eqb x.amount x.amount refl)
+
+-- as many were found as the slip says,
+judged-same : (c : Contents) (n : ℕ) (last : Option Instruction) → n ≡ c.entries → judged (Some c) n last ≡ Same
+judged-same c n last e = cond-true (eqb n c.entries) _ _ (eq-eqb n c.entries e)
+
+-- or one more, and it is the one in hand
+judged-stands : (c : Contents) (n : ℕ) (last : Option Instruction) (x : Instruction) → n ≡ c.entries + 1 → c.hand ≡ Some x → last ≡ Some x → judged (Some c) n last ≡ Stands
+judged-stands c n last x e eh el =
+    let other : eqb n c.entries ≡ false = ne_eqb n c.entries (λ q. omega arith) in
+    cond-false (eqb n c.entries) _ _ other ∙ rw (eq-eqb n (c.entries + 1) e, eh, el, same-self x) refl
+
+module _ (h : Rulebook) (pairs : ℕ) (t : Tally) where
+  -- a close gives a slip that matches, or the one that was owed
+  pub closed : (v : View) (l : Option Contents) (m : Mode) → KeptBy h pairs t v l m → OnDevice h pairs t v.medium × Matches (latest (told_by m v.count) l) t
+  closed v l Open k = (k.1.device, (k.1.count, sym k.0))
+  closed v l (Down x) k = (k.1.device, (k.1.count, sym k.0))
+  closed v l (Refused f) k = k
+
+  pub restarted : (m n : Medium) (q top : ℕ) → Restart m n q top → OnDevice h pairs t m → OnDevice h pairs t n
+  restarted m n q top r k = record {
+    journal = restarting (written_by h pairs) m n q top t.list t.hand k.journal r;
+    lawful = k.lawful;
+    size = omega (arith, r.size, k.size);
+  }
+
+  -- what an opening answered 0 found is what the verdict on the slip has the tally take
+  pub record Agrees (l : Option Contents) (v : View) (ys : List Instruction) : Type 0 where
+    pub list : cond (found_to_stand (slip_answer Open v.found v.last l)) (with_hand t.list t.hand) t.list ≡ ys
+    pub upholds : Upholds (slip_answer Open v.found v.last l)
+
+  agrees-without : (l : Option Contents) (v : View) (ys : List Instruction) → Matches l t → v.found ≡ length ys → ys ≡ t.list → Agrees l v ys
+  agrees-without None v ys m found e = record { list = sym e; upholds = tt }
+  agrees-without (Some c) v ys m found e =
+      let same = judged-same c v.found v.last (found ∙ ap length e ∙ sym m.0) in
+      record {
+        list = ap (λ w. cond (eqb (verdict_number w) 1) (with_hand t.list t.hand) t.list) same ∙ sym e;
+        upholds = inl (ap verdict_number same);
+      }
+
+  agrees-with : (l : Option Contents) (v : View) (ys : List Instruction) (x : Instruction) → Matches l t → v.found ≡ length ys → v.last ≡ last_of ys → t.hand ≡ Some x → ys ≡ t.list ++ (x ∷ []) → Agrees l v ys
+  agrees-with None v ys x m found last hand e = absurd (nothing-is-some (sym m ∙ hand))
+  agrees-with (Some c) v ys x m found last hand e =
+      let stands = judged-stands c v.found v.last x (found ∙ ap length e ∙ length_push t.list x ∙ ap (λ n. n + 1) (sym m.0)) (m.1 ∙ hand) (last ∙ ap last_of e ∙ last-more t.list x) in
+      record {
+        list = ap (λ w. cond (eqb (verdict_number w) 1) (with_hand t.list t.hand) t.list) stands ∙ ap (with_hand t.list) hand ∙ sym e;
+        upholds = inr (ap verdict_number stands);
+      }
+
+  agrees : (l : Option Contents) (v : View) (ys : List Instruction) → Matches l t → Holding h pairs ys v → WithOrWithout t.list t.hand ys → Agrees l v ys
+  agrees l v ys m g (inl e) = agrees-without l v ys m g.found e
+  agrees l v ys m g (inr (x, hand, e)) = agrees-with l v ys x m g.found g.last hand e
+
+  -- what an opening makes of a tally that the device kept
+  pub record Reopened (m : Medium) (l : Option Contents) (v : View) : Type 0 where
+    pub kept : KeptBy h pairs (fed_opening t (opening_answer v.mode) (slip_answer v.mode v.found v.last l)) v (owed_after v.mode l) v.mode
+    pub upholds : UpheldBy (opening_answer v.mode) (slip_answer v.mode v.found v.last l)
+    pub prompt : 1 + 2 * pairs ≤ m.left → opening_answer v.mode ≡ Ok tt
+
+  abbrev KeptAs : Option Contents → View → Mode → Type 0
+  KeptAs l v m = KeptBy h pairs (fed_opening t (opening_answer m) (slip_answer m v.found v.last l)) v (owed_after m l) m × UpheldBy (opening_answer m) (slip_answer m v.found v.last l)
+
+  kept-as : (w : Medium) (l : Option Contents) (v : View) (m : Mode) → OnDevice h pairs t w → Matches l t → 1 + 2 * pairs ≤ v.medium.size → FoundBy h pairs t.list t.hand v m → KeptAs l v m
+  kept-as w l v Open k ml size (ys, either, g) =
+      let a = agrees l v ys ml g either in
+      let engine : InEngine h pairs (record { list = ys; hand = None }) v = record {
+        device = record {
+          journal = g.journal;
+          lawful = record { standing = v.standing; runs = g.runs; next = λ x e. absurd (nothing-is-some e) };
+          size = size;
+        };
+        runs = g.runs;
+        room = g.room;
+        count = g.count;
+      } in
+      ((refl, subst (λ zs. InEngine h pairs (record { list = zs; hand = None }) v) (sym a.list) engine), a.upholds)
+  kept-as w l v (Down x) k ml size f = absurd f
+  kept-as w l v (Refused f) k ml size j = ((record { journal = j.1; lawful = k.lawful; size = size }, ml), j.0)
+
+  pub reopened : (m : Medium) (l : Option Contents) → Paired pairs → (h.kind securities).code < 256 → (h.kind cash).code < 256 → Bounded m → OnDevice h pairs t m → Matches l t → Reopened m l (opened h m)
+  reopened m l p c₁ c₂ b k ml =
+      let v = opened h m in
+      let o = opens h pairs m t.list t.hand v p.some p.few k.size c₁ c₂ b k.journal k.lawful refl in
+      let a = kept-as m l v v.mode k ml (omega (arith, o.same.size, k.size)) o.found in
+      record { kept = a.0; upholds = a.1; prompt = λ low. ap opening_answer (o.prompt low) }

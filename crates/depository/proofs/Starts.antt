@@ -1,0 +1,81 @@
+-- A depository after a format.
+use Rattle.std.proofs.Common.{◌∙◌, ◌≡◌, ℕ, ◌+◌, ◌*◌, ◌<◌, ◌≤◌, Bool, true, false, cond, List, [], ◌∷◌, ◌++◌, take, None, Ok, Err, sym, refl, subst, arith}
+use Rattle.answers.specs.declared.Fault.{Fault}
+use Rattle.answers.specs.declared.Refusal.TheVariants.{NoRoom}
+use Rattle.answers.specs.Faults.{plain}
+use Rattle.book.specs.Holdings.{Holdings}
+use Rattle.rulebook.specs.Terms.{Side, securities, cash}
+use Rattle.rulebook.specs.Rules.{Rulebook, empty, start}
+use Rattle.rulebook.proofs.Meanings.{last-words}
+use Rattle.device.specs.Medium.{Medium, Bounded}
+use Rattle.device.specs.Calls.{Answer}
+use Rattle.device.specs.Traces.{DeviceCall, writing, syncing, Traced}
+use Rattle.journal.specs.Blocks.{zeros, header_bytes, layout}
+use Rattle.journal.specs.Journal.{Journal}
+use Rattle.journal.specs.Format.{no_room, format_answer, header_for as format_header, Formatted, mark_writes, format_calls}
+use Rattle.engine.specs.Opening.{header_for}
+use Rattle.depository.specs.declared.calls.Reply.{Reply}
+use Rattle.depository.specs.Orders.{Order}
+use Rattle.depository.specs.Moments.{Moment, shut, at}
+use Rattle.depository.specs.Tally.{fresh}
+use Rattle.depository.specs.Steps.{Path}
+use Rattle.depository.specs.Law.{AfterFormat, Survives}
+use Rattle.depository.proofs.Kept.{Paired, Kept}
+use Rattle.depository.proofs.Courses.{survives}
+
+format-passes : (b : Bool) (e : Fault) (rest : Answer) → Ok tt ≡ cond b (Err e) rest → b ≡ false
+format-passes true e rest ok = absurd (let z : ◌≡◌ {A = ℕ} 0 1 = cc in omega arith)
+format-passes false e rest ok = refl
+
+-- a format that is answered 0 had room
+pub has-room : (pairs : ℕ) (m : Medium) → format_answer pairs m ≡ Ok tt → no_room pairs m.size ≡ false
+has-room pairs m e = format-passes (no_room pairs m.size) (plain NoRoom) _ (sym e)
+
+-- a number of pairs that a device has room for
+record Room (pairs size : ℕ) : Type 0 where
+  paired : Paired pairs
+  within : 1 + 2 * pairs ≤ size
+
+room : (pairs size : ℕ) → no_room pairs size ≡ false → Room pairs size
+room pairs size e = record { paired = record { some = grind arith; few = grind arith }; within = grind arith }
+
+-- the header that a format writes for the kinds that the books answer
+same-header : (h : Rulebook) (a b pairs : ℕ) → a ≡ (h.kind securities).code → b ≡ (h.kind cash).code → format_header a b pairs ≡ header_for h pairs
+same-header h a b pairs ea eb = λ i. record { register = ea i; cash = eb i; pairs = pairs }
+
+-- a device d, and what a format by the kinds that the books answered made of it
+module _ {D : Type 0} (makes : D → DeviceCall → D → Type 0) (means : D → Medium) (h : Rulebook) (most pairs : ℕ) (d e : D) (books : Side → Holdings) (a b : ℕ) (ea : a ≡ (h.kind securities).code) (eb : b ≡ (h.kind cash).code)
+    (r : Answer) (is : r ≡ format_answer pairs (means d))
+    (after : no_room pairs (means d).size ≡ false → Formatted (header_bytes (format_header a b pairs)) pairs (means d) (means e))
+    (trace : Traced makes (format_calls (header_bytes (format_header a b pairs)) pairs (means d).size (means d).left) d e) where
+  -- the calls of a format that has room
+  abbrev made : ℕ → List DeviceCall
+  made left = take (left + 1) (writing 0 zeros ∷ syncing ∷ (mark_writes pairs ++ (syncing ∷ writing 0 (header_bytes (format_header a b pairs)) ∷ syncing ∷ [])))
+
+  pub after-format : AfterFormat makes means h pairs d r e
+  after-format = record {
+    format = sym is;
+    refused = λ n. sym (subst (λ b. Traced makes (cond b [] (made (means d).left)) d e) n trace);
+    after = λ n. subst (λ head. Formatted (header_bytes head) pairs (means d) (means e)) (same-header h a b pairs ea eb) (after n);
+    trace = subst (λ head. Traced makes (format_calls (header_bytes head) pairs (means d).size (means d).left) d e) (same-header h a b pairs ea eb) trace;
+  }
+
+  module _ (c₁ : (h.kind securities).code < 256) (c₂ : (h.kind cash).code < 256) (ok : r ≡ Ok tt) (journal : Journal (layout (format_header a b pairs)) (means e) [] None) where
+    roomy : no_room pairs (means d).size ≡ false
+    roomy = has-room pairs (means d) (sym is ∙ ok)
+
+    -- nothing stands yet, and no slip is owed
+    kept : Kept h pairs fresh (at (shut (means e) books) None)
+    kept = (
+      record {
+        journal = subst (λ head. Journal (layout head) (means e) [] None) (same-header h a b pairs ea eb) journal;
+        lawful = record { standing = empty; runs = start; next = λ x q. absurd (let z : ◌≡◌ {A = ℕ} 0 1 = cc in omega arith) };
+        size = omega (arith, (room pairs (means d).size roomy).within, (after roomy).size);
+      },
+      refl,
+    )
+
+    pub served : ((x : D) → Bounded (means x)) → {n : Moment} {cs : List Order} {rs : List Reply} {z : Moment} {f : D} → n ≡ at (shut (means e) books) None → Path makes means h most n e cs rs z f → Survives makes means h most pairs d books cs rs z f
+    served bounds {n} {cs} {rs} {z} {f} en path =
+        let s = survives h most pairs (room pairs (means d).size roomy).paired c₁ c₂ makes means bounds (subst (λ a. Path makes means h most a e cs rs z f) en path) kept in
+        record { device = e; formatted = subst (λ q. AfterFormat makes means h pairs d q e) ok after-format; course = s.0; law = s.1; words = last-words }

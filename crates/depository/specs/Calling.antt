@@ -1,0 +1,104 @@
+-- What each call of a depository answers and where it leads, by the engine's and the device's own relations. Assumes nothing.
+use Rattle.std.specs.Prelude.{◌≡◌, ℕ, Some, None, Ok, Err, Option, Result}
+use Rattle.answers.specs.declared.Refusal.{Refusal}
+use Rattle.answers.specs.declared.Refusal.TheVariants.{OpeningRefused}
+use Rattle.instruction.specs.declared.Instruction.{Instruction}
+use Rattle.book.specs.Holdings.{Holdings}
+use Rattle.rulebook.specs.Terms.{Side, securities, cash}
+use Rattle.rulebook.specs.Rules.{Rulebook}
+use Rattle.ledger.specs.Rows.{state_question}
+use Rattle.ledger.specs.View.{holding_question}
+use Rattle.device.specs.Medium.{Medium}
+use Rattle.device.specs.Power.{Restart}
+use Rattle.device.specs.Calls.{Answer}
+use Rattle.engine.specs.declared.engine.Mode.{Mode}
+use Rattle.engine.specs.declared.engine.Mode.TheVariants.{Open, Down, Refused}
+use Rattle.engine.specs.declared.slip.Contents.{Contents}
+use Rattle.engine.specs.declared.slip.Verdict.{Verdict}
+use Rattle.engine.specs.Slips.{judged}
+use Rattle.engine.specs.View.{View}
+use Rattle.engine.specs.Opening.{opened}
+use Rattle.engine.specs.Instructing.{Instructed as InstructedEngine}
+use Rattle.engine.specs.Asking.{opening_answer, if_answering, closing}
+use Rattle.depository.specs.Orders.{Order, to_instruct, to_close, to_restart, to_open, to_ask}
+use Rattle.depository.specs.declared.calls.Question.{Question}
+use Rattle.depository.specs.declared.calls.Question.TheVariants.{Securities, Money, TradeState, Entries}
+use Rattle.depository.specs.declared.calls.Fact.{Fact}
+use Rattle.depository.specs.declared.calls.Fact.TheVariants.{Holding as HoldingFact, State as StateFact, Entries as EntriesFact}
+use Rattle.depository.specs.declared.calls.Reply.{Reply}
+use Rattle.depository.specs.declared.calls.Reply.TheVariants.{Done, Instructed, Opened as OpenedReply, Told, Misfit}
+use Rattle.depository.specs.Slips.{latest}
+use Rattle.depository.specs.Moments.{Phase, running, shut, Moment, at}
+
+-- the call is answered r₀ and leads to b₀
+pub record Leads (r r₀ : Reply) (b b₀ : Moment) : Type 0 where
+  pub answer : r ≡ r₀
+  pub leads : b ≡ b₀
+
+-- an instruction, as the engine says
+pub record Instructs (h : Rulebook) (x : Instruction) (v : View) (l : Option Contents) (r : Reply) (b : Moment) : Type 0 where
+  pub answered : Answer
+  pub after : View
+  pub engine : InstructedEngine h x v after answered
+  pub leads : Leads r (Instructed answered) b (at (running after) l)
+
+-- a restart, as the device says; the books stay
+pub record Restarts (q most : ℕ) (m : Medium) (books : Side → Holdings) (l : Option Contents) (r : Reply) (b : Moment) : Type 0 where
+  pub after : Medium
+  pub device : Restart m after q most
+  pub leads : Leads r Done b (at (shut after books) l)
+
+-- what the last slip that is not unknown answers when it is presented to an engine
+abbrev pub slip_answer : Mode → ℕ → Option Instruction → Option Contents → Option (Result Verdict Refusal)
+slip_answer m n last None = None
+slip_answer Open n last (Some c) = Some (Ok (judged (Some c) n last))
+slip_answer (Down x) n last (Some c) = Some (Ok (judged (Some c) n last))
+slip_answer (Refused f) n last (Some c) = Some (Err OpeningRefused)
+
+-- the slip that is still owed then
+abbrev pub owed_after : Mode → Option Contents → Option Contents
+owed_after Open l = None
+owed_after (Down x) l = None
+owed_after (Refused f) l = l
+
+abbrev pub opened_reply : View → Option Contents → Reply
+opened_reply v l = OpenedReply (record { answer = opening_answer v.mode; found = v.found; presented = slip_answer v.mode v.found v.last l })
+
+-- where an opening leads
+abbrev pub opened_moment : View → Option Contents → Moment
+opened_moment v l = at (running v) (owed_after v.mode l)
+
+-- what is told of a question
+abbrev pub fact : {X : Type 0} → (X → Fact) → Result X Refusal → Result Fact Refusal
+fact f (Ok x) = Ok (f x)
+fact f (Err r) = Err r
+
+abbrev pub told : Rulebook → View → Question → Result Fact Refusal
+told h v (Securities a i) = fact HoldingFact (if_answering v.mode (holding_question h v.standing securities a i))
+told h v (Money a i) = fact HoldingFact (if_answering v.mode (holding_question h v.standing cash a i))
+told h v (TradeState t) = fact StateFact (if_answering v.mode (state_question v.standing.state t))
+told h v Entries = fact EntriesFact (if_answering v.mode (Ok v.count))
+
+module _ (h : Rulebook) (most : ℕ) where
+  -- by where the depository is: a call that does not fit is answered so and changes nothing, nor does a question
+  abbrev pub WhileRunning : View → Option Contents → Order → Reply → Moment → Type 0
+  WhileRunning v l (to_instruct x) r b = Instructs h x v l r b
+  WhileRunning v l to_close r b = Leads r Done b (at (shut v.medium v.standing.book) (latest (closing v) l))
+  WhileRunning v l (to_restart q remains) r b = Leads r Misfit b (at (running v) l)
+  WhileRunning v l to_open r b = Leads r Misfit b (at (running v) l)
+  WhileRunning v l (to_ask q) r b = Leads r (Told (told h v q)) b (at (running v) l)
+
+  abbrev pub WhileShut : Medium → (Side → Holdings) → Option Contents → Order → Reply → Moment → Type 0
+  WhileShut m books l (to_instruct x) r b = Leads r Misfit b (at (shut m books) l)
+  WhileShut m books l to_close r b = Leads r Misfit b (at (shut m books) l)
+  WhileShut m books l (to_restart q remains) r b = Restarts q most m books l r b
+  WhileShut m books l to_open r b = Leads r (opened_reply (opened h m) l) b (opened_moment (opened h m) l)
+  WhileShut m books l (to_ask q) r b = Leads r Misfit b (at (shut m books) l)
+
+  abbrev pub DoesIn : Phase → Option Contents → Order → Reply → Moment → Type 0
+  DoesIn (running v) l c r b = WhileRunning v l c r b
+  DoesIn (shut m books) l c r b = WhileShut m books l c r b
+
+  -- a call c answered r leads from the moment a to the moment b
+  abbrev pub Does : Moment → Order → Reply → Moment → Type 0
+  Does a c r b = DoesIn a.phase a.last c r b

@@ -1,0 +1,8 @@
+pub mod Orders
+pub mod Slips
+pub mod Moments
+pub mod Calling
+pub mod Tally
+pub mod Handling
+pub mod Steps
+pub mod Law

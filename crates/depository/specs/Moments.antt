@@ -1,0 +1,36 @@
+-- A depository between two calls. Assumes nothing.
+use Rattle.std.specs.Prelude.{Option}
+use Rattle.rulebook.specs.Terms.{Side}
+use Rattle.book.specs.Holdings.{Holdings}
+use Rattle.ledger.specs.View.{by_side}
+use Rattle.device.specs.Medium.{Medium}
+use Rattle.device.specs.declared.Device as device
+use Rattle.device.specs.declared.PoweredDevice as powered
+use Rattle.book.specs.declared.Book as book
+use Rattle.engine.specs.declared.slip.Contents.{Contents}
+use Rattle.engine.specs.View.{View, view}
+use Rattle.depository.specs.declared.condition.Condition.{Condition}
+use Rattle.depository.specs.declared.condition.Condition.TheVariants.{Running, Shut}
+use Rattle.depository.specs.declared.condition.Depository.{Depository}
+use Rattle.depository.specs.Slips.{kept_slip}
+
+-- an engine, or the device and what the books hold
+pub data Phase : Type 0 where
+  running : View → Phase
+  shut : Medium → (Side → Holdings) → Phase
+
+-- with what the last slip tells that is not unknown, if there is one
+pub record Moment : Type 0 where
+  pub phase : Phase
+  pub last : Option Contents
+
+abbrev pub at : Phase → Option Contents → Moment
+at p l = record { phase = p; last = l }
+
+module _ {D R C : Type 0} {d : device.Ghosts D} {r : book.Ghosts R} {c : book.Ghosts C} where
+  abbrev pub phase_of : Condition D R C d r c → Phase
+  phase_of (Running e) = running (view d.medium e)
+  phase_of (Shut device register cash) = shut (d.medium device) (by_side (r.holdings register) (c.holdings cash))
+
+  abbrev pub moment_of : {p : powered.Ghosts D} → Depository D R C p d r c → Moment
+  moment_of h = at (phase_of h.condition) (kept_slip h.last)

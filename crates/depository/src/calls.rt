@@ -1,0 +1,52 @@
+// What a depository is asked, and what it answers.
+use answers::{Fault, Refusal};
+use book::Holding;
+use engine::Verdict;
+use instruction::Instruction;
+use rulebook::State;
+
+// What is asked of an engine, which alters nothing.
+#[derive(Clone, Copy)]
+pub enum Question {
+    Securities { account: u16, item: u16 },
+    Money { account: u16, currency: u16 },
+    TradeState(u32),
+    Entries,
+}
+
+// What it tells.
+#[derive(Clone, Copy)]
+pub enum Fact {
+    Holding(Holding),
+    State(State),
+    Entries(u32),
+}
+
+#[derive(Clone, Copy)]
+pub enum Call<'a> {
+    Instruct(Instruction),
+    Close,
+    Restart { calls: u32, remains: &'a [u8] },
+    Open,
+    Ask(Question),
+}
+
+// What an open is answered: by the engine, with the entries that it found, and by the last slip that is not unknown, if
+// there is one, which is presented to it.
+#[derive(Clone, Copy)]
+pub struct Opened {
+    pub answer: Result<(), Fault>,
+    pub found: u32,
+    pub presented: Option<Result<Verdict, Refusal>>,
+}
+
+#[derive(Clone, Copy)]
+pub enum Reply {
+    // a close or a restart, which never refuse
+    Done,
+    Instructed(Result<(), Fault>),
+    Opened(Opened),
+    Told(Result<Fact, Refusal>),
+    // the call does not fit: it wants an engine where there is none, or a device that an engine has
+    Misfit,
+}

@@ -1,0 +1,22 @@
+// The end of a depository: what it owes is filed.
+ghost use Rattle.std.specs.Prelude.{◌≡◌};
+ghost use Rattle.depository.specs.Slips.{kept_slip};
+
+use crate::condition::{Condition, Depository};
+use book::Book;
+use device::PoweredDevice;
+use engine::Contents;
+
+impl<D: PoweredDevice, R: Book, C: Book> Depository<D, R, C> {
+    // Gives back what the depository consists of, and files the slip that it still owes, if there is one.
+    pub fn finish(self) -> (Condition<D, R, C>, Option<Contents>)
+        ensures condition { result.0 ≡ self.condition }
+        ensures slip { result.1 ≡ kept_slip self.last }
+    {
+        let slip = match self.last {
+            Some(slip) => slip.file(),
+            None => None,
+        };
+        (self.condition, slip)
+    }
+}

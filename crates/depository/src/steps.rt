@@ -1,0 +1,146 @@
+// One call at a time. A depository moves from call to call: what it is made of moves into an engine and out again. A call that
+// does not fit leaves it as it is.
+ghost use Rattle.std.specs.Prelude.{◌≡◌};
+ghost use Rattle.instruction.specs.Layout.{Fit};
+ghost use Rattle.ledger.specs.View.{rulebook};
+ghost use Rattle.engine.specs.View.{view};
+ghost use Rattle.depository.specs.Orders.{to_instruct, to_close, to_restart, to_open, to_ask, order};
+ghost use Rattle.depository.specs.Moments.{moment_of};
+ghost use Rattle.depository.specs.Calling.{told, Does};
+ghost use Rattle.depository.specs.Handling.{Handled, device_of};
+ghost use Rattle.depository.specs.Steps.{Step};
+
+use crate::calls::{Call, Fact, Opened, Question, Reply};
+use crate::condition::{Condition, Depository};
+use crate::slips::{latest, present};
+use answers::Refusal;
+use book::Book;
+use device::{Device, PoweredDevice};
+use engine::Engine;
+use instruction::Instruction;
+
+// What an engine tells of a question.
+fn told<D: Device, R: Book, C: Book>(
+    engine: &Engine<D, R, C>,
+    question: &Question,
+) -> Result<Fact, Refusal>
+    ensures { result ≡ told (rulebook R.fixed C.fixed) (view D.medium engine.now) question.now }
+{
+    let fact = match *question {
+        Question::Securities { account, item } => Fact::Holding(engine.securities(account, item)?),
+        Question::Money { account, currency } => Fact::Holding(engine.money(account, currency)?),
+        Question::TradeState(number) => Fact::State(engine.trade_state(number)?),
+        Question::Entries => Fact::Entries(engine.entries()?),
+    };
+    Ok(fact)
+}
+
+impl<D: PoweredDevice, R: Book, C: Book> Depository<D, R, C> {
+    // In place, as a question: only what moves the device and the books takes the depository by value. That the instruction's
+    // fields fit is said too: a caller that took it from a call would not know it.
+    pub(crate) fn instruct(&mut self, x: Instruction) -> Reply
+        ensures fit { Fit x }
+        ensures does { Does (rulebook R.fixed C.fixed) D.PoweredDevice.most
+            (moment_of self.old) (to_instruct x) result (moment_of self.new) }
+        ensures device { Handled D.makes (rulebook R.fixed C.fixed) (moment_of self.old).phase (to_instruct x)
+            (device_of self.old.condition) (device_of self.new.condition) }
+    {
+        match &mut self.condition {
+            Condition::Running(engine) => Reply::Instructed(engine.instruct(&x)),
+            Condition::Shut(_, _, _) => Reply::Misfit,
+        }
+    }
+
+    fn close(self) -> (Self, Reply)
+        ensures does { Does (rulebook R.fixed C.fixed) D.PoweredDevice.most
+            (moment_of self) to_close result.1 (moment_of result.0) }
+        ensures device { Handled D.makes (rulebook R.fixed C.fixed) (moment_of self).phase to_close
+            (device_of self.condition) (device_of result.0.condition) }
+    {
+        let Depository { condition, last } = self;
+        match condition {
+            Condition::Running(engine) => {
+                let (device, register, cash, slip) = engine.close();
+                let condition = Condition::Shut(device, register, cash);
+                let last = latest(last, slip);
+                (Depository { condition, last }, Reply::Done)
+            }
+            condition => (Depository { condition, last }, Reply::Misfit),
+        }
+    }
+
+    fn restart(self, calls: u32, remains: &[u8]) -> (Self, Reply)
+        ensures does { Does (rulebook R.fixed C.fixed) D.PoweredDevice.most
+            (moment_of self) (to_restart calls remains.now) result.1 (moment_of result.0) }
+        ensures device { Handled D.makes (rulebook R.fixed C.fixed) (moment_of self).phase (to_restart calls remains.now)
+            (device_of self.condition) (device_of result.0.condition) }
+    {
+        let Depository { condition, last } = self;
+        match condition {
+            Condition::Shut(mut device, register, cash) => {
+                device.restart(calls, remains);
+                let condition = Condition::Shut(device, register, cash);
+                (Depository { condition, last }, Reply::Done)
+            }
+            condition => (Depository { condition, last }, Reply::Misfit),
+        }
+    }
+
+    fn open(self) -> (Self, Reply)
+        ensures does { Does (rulebook R.fixed C.fixed) D.PoweredDevice.most
+            (moment_of self) to_open result.1 (moment_of result.0) }
+        ensures device { Handled D.makes (rulebook R.fixed C.fixed) (moment_of self).phase to_open
+            (device_of self.condition) (device_of result.0.condition) }
+    {
+        let Depository { condition, last } = self;
+        match condition {
+            Condition::Shut(device, register, cash) => {
+                let engine = Engine::open(device, register, cash);
+                let answer = engine.opening();
+                let found = engine.found();
+                let (presented, last) = present(&engine, last);
+                let condition = Condition::Running(engine);
+                let opened = Opened {
+                    answer,
+                    found,
+                    presented,
+                };
+                (Depository { condition, last }, Reply::Opened(opened))
+            }
+            condition => (Depository { condition, last }, Reply::Misfit),
+        }
+    }
+
+    // A question moves nothing.
+    pub(crate) fn ask(&self, question: &Question) -> Reply
+        ensures { Does (rulebook R.fixed C.fixed) D.PoweredDevice.most
+            (moment_of self.now) (to_ask question.now) result (moment_of self.now) }
+    {
+        match &self.condition {
+            Condition::Running(engine) => Reply::Told(told(engine, question)),
+            Condition::Shut(_, _, _) => Reply::Misfit,
+        }
+    }
+
+    // Gives one call, and answers it.
+    pub fn give(mut self, call: &Call<'_>) -> (Self, Reply)
+        ensures step { Step (rulebook R.fixed C.fixed) D.PoweredDevice.most
+            (moment_of self) (order call.now) result.1 (moment_of result.0) }
+        ensures device { Handled D.makes (rulebook R.fixed C.fixed) (moment_of self).phase (order call.now)
+            (device_of self.condition) (device_of result.0.condition) }
+    {
+        match call {
+            Call::Instruct(x) => {
+                let reply = self.instruct(*x);
+                (self, reply)
+            }
+            Call::Close => self.close(),
+            Call::Restart { calls, remains } => self.restart(*calls, remains),
+            Call::Open => self.open(),
+            Call::Ask(question) => {
+                let reply = self.ask(question);
+                (self, reply)
+            }
+        }
+    }
+}

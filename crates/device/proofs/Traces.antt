@@ -1,0 +1,84 @@
+-- Chains of calls, of any device and whatever its kind says.
+use Rattle.std.proofs.Common.{◌≡◌, ℕ, ◌+◌, ◌<◌, ◌&&◌, Bool, true, List, [], ◌∷◌, ◌++◌, length, take, sym, refl, ap, ◌∙◌, subst, arith}
+use Rattle.std.specs.List.{list_all}
+use Rattle.std.proofs.lemmas.Fn.{FoldsTo-push}
+use Rattle.std.proofs.lemmas.List.{take-append-le, take_all}
+use Rattle.std.proofs.Math.Seq.{take-append-add}
+use Rattle.std.proofs.lemmas.List.Folds.{list_all-append}
+use Rattle.device.specs.Traces.{DeviceCall, reading, writing, syncing, restarting, Traced, is_reading, only_reads, ReadOnly, Fixed, ReadsKeep, ImageMade}
+
+module _ {D : Type 0} (makes : D → DeviceCall → D → Type 0) where
+  pub traced-none : (d : D) → Traced makes [] d d
+  traced-none d = refl
+
+  pub traced-one : (call : DeviceCall) (d e : D) → makes d call e → Traced makes (call ∷ []) d e
+  traced-one call d e m = (e, m, refl)
+
+  -- a call more at the front
+  pub traced-first : (call : DeviceCall) (calls : List DeviceCall) (d e f : D) → makes d call e → Traced makes calls e f → Traced makes (call ∷ calls) d f
+  traced-first call calls d e f m t = (e, m, t)
+
+  -- a call more at the end
+  pub traced-last : (calls : List DeviceCall) (call : DeviceCall) (d e f : D) → Traced makes calls d e → makes e call f → Traced makes (calls ++ call ∷ []) d f
+  traced-last calls call d e f t m = FoldsTo-push makes d calls e call f t m
+
+  -- one chain after another
+  pub traced-append : (xs ys : List DeviceCall) (d e f : D) → Traced makes xs d e → Traced makes ys e f → Traced makes (xs ++ ys) d f
+  traced-append [] ys d e f s t = subst (λ (x : D). Traced makes ys x f) (sym s) t
+  traced-append (x ∷ xs) ys d e f s t = (s.0, s.1, traced-append xs ys s.0 e f s.2 t)
+
+  -- Calls of which each spends one, up to the one that finds none left: all of xs were made, and then those of ys.
+  pub traced-on : (xs ys : List DeviceCall) (left left' : ℕ) (d e f : D) → left ≡ left' + length xs → Traced makes (take (left + 1) xs) d e → Traced makes (take (left' + 1) ys) e f → Traced makes (take (left + 1) (xs ++ ys)) d f
+  traced-on xs ys left left' d e f spent s t =
+      let all : take (left + 1) xs ≡ xs = take_all (left + 1) xs (omega arith) in
+      let n : left + 1 ≡ length xs + (left' + 1) = omega arith in
+      let both : take (left + 1) (xs ++ ys) ≡ xs ++ take (left' + 1) ys = ap (λ (k : ℕ). take k (xs ++ ys)) n ∙ take-append-add xs ys (left' + 1) in
+      rw both (traced-append xs (take (left' + 1) ys) d e f (rw all at s) t)
+
+  -- the same where one of xs found none left
+  pub traced-off : (xs ys : List DeviceCall) (left : ℕ) (d e : D) → left < length xs → Traced makes (take (left + 1) xs) d e → Traced makes (take (left + 1) (xs ++ ys)) d e
+  traced-off xs ys left d e short t = rw (take-append-le (left + 1) xs ys (omega arith)) t
+
+  module _ {S : Type 0} (seen : D → S) where
+    -- a kind that leaves nothing open fixes what a chain leads to
+    pub traced-fixed : Fixed seen makes → (calls : List DeviceCall) (d e d' e' : D) → Traced makes calls d d' → Traced makes calls e e' → seen d ≡ seen e → seen d' ≡ seen e'
+    traced-fixed fixed [] d e d' e' s t same = sym (ap seen s) ∙ same ∙ ap seen t
+    traced-fixed fixed (c ∷ cs) d e d' e' s t same = traced-fixed fixed cs s.0 t.0 d' e' s.2 t.2 (fixed c d e s.0 t.0 s.1 t.1 same)
+
+    -- a chain of reads leaves what a read leaves
+    pub traced-reads : ReadsKeep seen makes → (calls : List DeviceCall) → only_reads calls ≡ true → (d d' : D) → Traced makes calls d d' → seen d' ≡ seen d
+    traced-reads keep [] only d d' t = sym (ap seen t)
+    traced-reads keep (reading b room ∷ cs) only d d' t = traced-reads keep cs only t.0 d' t.2 ∙ keep b room d t.0 t.1
+    traced-reads keep (writing b bytes ∷ cs) only d d' t = cc
+    traced-reads keep (syncing ∷ cs) only d d' t = cc
+    traced-reads keep (restarting calls remains ∷ cs) only d d' t = cc
+
+pub only_reads-append : (xs ys : List DeviceCall) → only_reads xs ≡ true → only_reads ys ≡ true → only_reads (xs ++ ys) ≡ true
+only_reads-append xs ys one two = list_all-append is_reading xs ys ∙ ap (λ (b : Bool). b && list_all is_reading ys) one ∙ two
+
+module _ {D : Type 0} (makes : D → DeviceCall → D → Type 0) where
+  pub read-none : (d : D) → ReadOnly makes d d
+  read-none d = ([], refl, refl)
+
+  pub read-one : {d e : D} (block room : ℕ) → makes d (reading block room) e → ReadOnly makes d e
+  read-one {d} {e} block room m = (reading block room ∷ [], refl, traced-one makes (reading block room) d e m)
+
+  pub read-on : {d e f : D} → ReadOnly makes d e → ReadOnly makes e f → ReadOnly makes d f
+  read-on {d} {e} {f} s t = (s.0 ++ t.0, only_reads-append s.0 t.0 s.1 t.1, traced-append makes s.0 t.0 d e f s.2 t.2)
+
+-- what After says of the image fixes it
+abbrev pub ImageFixed : (List ℕ → ℕ → DeviceCall → List ℕ → Type 0) → Type 0
+ImageFixed After = (call : DeviceCall) (xs : List ℕ) (left : ℕ) (ys zs : List ℕ) → After xs left call ys → After xs left call zs → ys ≡ zs
+
+module _ (w most : ℕ) (After : List ℕ → ℕ → DeviceCall → List ℕ → Type 0) (fixed : ImageFixed After) where
+  -- the image and the calls left after a call
+  image-made : (call : DeviceCall) (s t s' t' : List ℕ × ℕ) → ImageMade w most After s call s' → ImageMade w most After t call t' → s ≡ t → s' ≡ t'
+  image-made call s t s' t' one two same =
+      let also : ImageMade w most After s call t' = subst (λ (u : List ℕ × ℕ). ImageMade w most After u call t') (sym same) two in
+      let image : s'.0 ≡ t'.0 = fixed call s.0 s.1 s'.0 t'.0 one.image also.image in
+      let left : s'.1 ≡ t'.1 = one.left ∙ sym also.left in
+      let pair : List ℕ → ℕ → List ℕ × ℕ = λ xs n. (xs, n) in
+      ap (λ (xs : List ℕ). pair xs s'.1) image ∙ ap (pair t'.0) left
+
+  pub image-fixed : {D : Type 0} (seen : D → List ℕ × ℕ) → Fixed seen (λ d call d'. ImageMade w most After (seen d) call (seen d'))
+  image-fixed seen call d e d' e' one two same = image-made call (seen d) (seen e) (seen d') (seen e') one two same

@@ -1,0 +1,343 @@
+-- What an opening found, on a device that may hold anything.
+use Rattle.std.proofs.Common.{◌≡◌, ℕ, zero, suc, ◌+◌, ◌-◌, ◌*◌, ◌^◌, ◌<◌, ◌≤◌, Bool, true, false, cond, ◌&&◌, eqb, ltb, leb, List, [], ◌∷◌, ◌++◌, length, get_or, Some, None, Ok, Err, Option, Result, sym, refl, ap, ◌∙◌, subst, inl, inr, ⊎_elim, add-one, arith, lit<}
+use Rattle.std.proofs.lemmas.Bool.{cond-true, cond-false, eqb-true, ltb-false, and_parts, cases_Bool, cases_eq, both_ways}
+use Rattle.std.proofs.lemmas.List.{length_push, get_or_push, get_or_append_left}
+use Rattle.std.specs.Option.{unwrap_or}
+use Rattle.answers.specs.declared.Refusal.{Refusal}
+use Rattle.answers.specs.declared.Fault.{Fault}
+use Rattle.instruction.specs.declared.Instruction.{Instruction}
+use Rattle.instruction.specs.Layout.{Fit}
+use Rattle.rulebook.specs.Terms.{securities, cash}
+use Rattle.rulebook.specs.Rules.{Rulebook, Standing, empty, answer, verdict, effect, Runs, start, more}
+use Rattle.ledger.proofs.Carried.{accepts}
+use Rattle.device.specs.Medium.{Medium, Bounded}
+use Rattle.device.specs.Calls.{SameBlocks}
+use Rattle.journal.specs.declared.header.Header.{Header}
+use Rattle.journal.specs.Journal.{record_at, mark_at, Found}
+use Rattle.journal.specs.Blocks.{header_bytes, header_in, record_bytes, record_in, read_in, mark_bytes, no_instruction}
+use Rattle.journal.proofs.Trips.{record-read, read-record, read-header}
+use Rattle.engine.specs.declared.engine.Recovered.{Recovered}
+use Rattle.engine.specs.Recovery.{with_calls, drained, good, mark_answer, said, told, record_answer, allowed, ruled, marked, entry_answer, turn, Scan, scan}
+use Rattle.engine.specs.declared.engine.Mode.TheVariants.{Open}
+use Rattle.engine.specs.View.{View}
+use Rattle.engine.specs.Opening.{Fits, headed, header_held, header_answer, after_header, scanned_as, opened_on, opened, header_for, last_of}
+use Rattle.engine.specs.Lasting.{record_says, entry_in, listed, written_by}
+use Rattle.engine.specs.Standing.{FoundOn, Opens, Prompt}
+use Rattle.engine.proofs.Finds.{last-more, mark-good, mark-tested, calls-find}
+use Rattle.engine.proofs.Openings.{fewer-calls, then-scanned}
+
+-- a check that was passed, where it refuses what fails its test,
+met : {X : Type 0} (b : Bool) (r : Result X Fault) (f : Fault) (x : X) → cond b r (Err f) ≡ Ok x → (b ≡ true) × (r ≡ Ok x)
+met true r f x e = (refl, e)
+met false r f x e = absurd (cc)
+
+-- and where it refuses what its test finds
+spared : {X : Type 0} (b : Bool) (r : Result X Fault) (f : Fault) (x : X) → cond b (Err f) r ≡ Ok x → (b ≡ false) × (r ≡ Ok x)
+spared true r f x e = absurd (cc)
+spared false r f x e = (refl, e)
+
+-- what the reading of a record and the rules' answer tell
+
+told-so : (k : ℕ) (r : Result Instruction Refusal) (x : Instruction) → told k r ≡ Ok x → r ≡ Ok x
+told-so k (Ok y) x e = cc
+told-so k (Err f) x e = absurd (cc)
+
+said-from : (k : ℕ) (o : Option (List ℕ)) (x : Instruction) → said k o ≡ Ok x → (bs : List ℕ) × (o ≡ Some bs) × (record_in k bs ≡ Ok x)
+said-from k None x e = absurd (cc)
+said-from k (Some bs) x e = (bs, refl, told-so k (record_in k bs) x e)
+
+allowed-so : (k : ℕ) (x y : Instruction) (r : Result (Unit {0}) Fault) → allowed k x r ≡ Ok (Some y) → (x ≡ y) × (r ≡ Ok tt)
+allowed-so k x y (Ok u) e = (let o : ◌≡◌ {A = Option Instruction} (Some x) (Some y) = cc in cc, refl)
+allowed-so k x y (Err f) e = absurd (cc)
+
+allowed-ends : (k : ℕ) (x : Instruction) (r : Result (Unit {0}) Fault) → allowed k x r ≡ Ok None → ⊥
+allowed-ends k x (Ok u) e = let o : ◌≡◌ {A = Option Instruction} (Some x) None = cc in absurd (cc)
+allowed-ends k x (Err f) e = absurd (cc)
+
+-- the device has the header and the blocks of a journal for these books, of so many pairs
+record Heads (h : Rulebook) (m : Medium) (pairs : ℕ) : Type 0 where
+  head : m.holds 0 ≡ Some (header_bytes (header_for h pairs))
+  some : 0 < pairs
+  fits : Fits pairs m
+
+module _ (h : Rulebook) (m : Medium) (b : Bounded m) where
+  abbrev register : ℕ
+  register = (h.kind securities).code
+
+  abbrev money : ℕ
+  money = (h.kind cash).code
+
+  heads-read : (pairs : ℕ) (bs : List ℕ) (r : Result Header Refusal) → m.holds 0 ≡ Some bs → header_in bs ≡ r → headed register money m.size r ≡ Ok pairs → Heads h m pairs
+  heads-read pairs bs (Err f) holds is e = absurd (cc)
+  heads-read pairs bs (Ok head) holds is e =
+      let p = met (eqb head.register register && eqb head.cash money) _ _ pairs e in
+      let q = and_parts (eqb head.register register) (eqb head.cash money) p.0 in
+      let s = spared (ltb m.size (1 + 2 * head.pairs)) _ _ pairs p.1 in
+      let n : head.pairs ≡ pairs = cc in
+      let w = read-header bs head (b.whole 0 bs holds) (b.bytes 0 bs holds) is in
+      let i = eqb-true head.register register q.0 in
+      let j = eqb-true head.cash money q.1 in
+      let same : head ≡ header_for h pairs = λ k. record { register = i k; cash = j k; pairs = n k } in
+      let room = ltb-false m.size (1 + 2 * head.pairs) s.0 in
+      record {
+        head = holds ∙ ap Some (sym w.1 ∙ ap header_bytes same);
+        some = omega (arith, w.0.some, n);
+        fits = record { few = omega (arith, w.0.few, n); within = omega (arith, room, n) };
+      }
+
+  heads-held : (pairs : ℕ) (o : Option (List ℕ)) → m.holds 0 ≡ o → header_held register money m.size o ≡ Ok pairs → Heads h m pairs
+  heads-held pairs None holds e = absurd (cc)
+  heads-held pairs (Some bs) holds e = heads-read pairs bs (header_in bs) holds refl e
+
+  -- a header that passed its checks
+  heads : (pairs : ℕ) → header_answer register money m ≡ Ok pairs → Heads h m pairs
+  heads pairs e =
+      let p = spared (leb m.size 0) _ _ pairs e in
+      let q = spared (eqb m.left 0) _ _ pairs p.1 in
+      heads-held pairs (m.holds 0) refl q.1
+
+  -- the first k entries have been read, and lead to s
+  record Prefix (k : ℕ) (s : Standing) (last : Option Instruction) : Type 0 where
+    marks : (j : ℕ) → j < k → m.holds (mark_at j) ≡ Some (mark_bytes j)
+    records : (j : ℕ) → j < k → m.holds (record_at j) ≡ Some (record_bytes j (entry_in m j))
+    list : Runs h (listed m k) s
+    is_last : last ≡ last_of (listed m k)
+
+  none-read : Prefix 0 empty None
+  unfolding listed
+  none-read = record {
+    marks = λ j l. absurd (omega arith);
+    records = λ j l. absurd (omega arith);
+    list = start;
+    is_last = refl;
+  }
+
+  -- entry k has been read and says x, which the rules accept
+  record ReadsEntry (k : ℕ) (s : Standing) (x : Instruction) : Type 0 where
+    mark : m.holds (mark_at k) ≡ Some (mark_bytes k)
+    entry : m.holds (record_at k) ≡ Some (record_bytes k x)
+    says : entry_in m k ≡ x
+    accepted : answer h s x ≡ Ok tt
+
+  listed-more : (k : ℕ) → listed m (k + 1) ≡ listed m k ++ (entry_in m k ∷ [])
+  unfolding listed
+  listed-more k = rw (add-one k) refl
+
+  one-more : (k : ℕ) (s : Standing) (last : Option Instruction) (x : Instruction) → Prefix k s last → ReadsEntry k s x → Prefix (k + 1) (effect s x) (Some x)
+  one-more k s last x p e =
+      let list : listed m (k + 1) ≡ listed m k ++ (x ∷ []) = listed-more k ∙ ap (λ y. listed m k ++ (y ∷ [])) e.says in
+      record {
+        marks = λ j l.
+            ⊎_elim (λ (i : j ≡ k). subst (λ n. m.holds (mark_at n) ≡ Some (mark_bytes n)) (sym i) e.mark) (λ ne. p.marks j (omega arith)) (cases_eq j k);
+        records = λ j l.
+            ⊎_elim (λ (i : j ≡ k). subst (λ n. m.holds (record_at n) ≡ Some (record_bytes n (entry_in m n))) (sym i) (e.entry ∙ ap (λ y. Some (record_bytes k y)) (sym e.says)))
+            (λ ne. p.records j (omega arith)) (cases_eq j k);
+        list = subst (λ ys. Runs h ys (effect s x)) (sym list) (more x p.list e.accepted);
+        is_last = sym (ap last_of list ∙ last-more (listed m k) x);
+      }
+
+  -- what an entry that was read says
+  module _ (k : ℕ) (s : Standing) where
+    ruled-so : (x : Instruction) (r : Result Instruction Fault) → ruled h s k r ≡ Ok (Some x) → (r ≡ Ok x) × (answer h s x ≡ Ok tt)
+    ruled-so x (Ok y) e =
+        let p = allowed-so k y x (verdict h s y) e in
+        (ap Ok p.0, subst (λ z. answer h s z ≡ Ok tt) p.0 (accepts y (answer h s y) p.1))
+    ruled-so x (Err f) e = absurd (cc)
+
+    ruled-ends : (r : Result Instruction Fault) → ruled h s k r ≡ Ok None → ⊥
+    ruled-ends (Ok y) e = allowed-ends k y (verdict h s y) e
+    ruled-ends (Err f) e = absurd (cc)
+
+    marked-so : (on : Medium) (x : Instruction) (r : Result Bool Fault) → marked h on s k r ≡ Ok (Some x) → (r ≡ Ok true) × (record_answer (drained 1 on) k ≡ Ok x) × (answer h s x ≡ Ok tt)
+    marked-so on x (Ok true) e = let p = ruled-so x (record_answer (drained 1 on) k) e in (refl, p.0, p.1)
+    marked-so on x (Ok false) e = let o : ◌≡◌ {A = Option Instruction} None (Some x) = cc in absurd (cc)
+    marked-so on x (Err f) e = absurd (cc)
+
+    marked-ends : (on : Medium) (r : Result Bool Fault) → marked h on s k r ≡ Ok None → r ≡ Ok false
+    marked-ends on (Ok true) e = absurd (ruled-ends (record_answer (drained 1 on) k) e)
+    marked-ends on (Ok false) e = refl
+    marked-ends on (Err f) e = absurd (cc)
+
+    -- the mark's test, from its answer
+    tested : (on : Medium) (t : Bool) → mark_answer on k ≡ Ok t → good k (on.holds (mark_at k)) ≡ t
+    tested on t e =
+        let p = spared (eqb on.left 0) _ _ t e in
+        let o : ◌≡◌ {A = Result Bool Fault} (Ok (good k (on.holds (mark_at k)))) (Ok t) = p.1 in
+        cc
+
+    entry-read : (calls : ℕ) (x : Instruction) → entry_answer h (with_calls calls m) s k ≡ Ok (Some x) → ReadsEntry k s x
+    entry-read calls x e =
+        let on = with_calls calls m in
+        let p = marked-so on x (mark_answer on k) e in
+        let q = spared (eqb (drained 1 on).left 0) (said k (m.holds (record_at k))) _ x p.1 in
+        let r = said-from k (m.holds (record_at k)) x q.1 in
+        let w : record_bytes k x ≡ r.0 = read-record k r.0 x (b.whole (record_at k) r.0 r.1) (b.bytes (record_at k) r.0 r.1) r.2 in
+        record {
+          mark = mark-tested m k b (tested on true p.0);
+          entry = r.1 ∙ ap Some (sym w);
+          says = ap (λ o. unwrap_or (record_says k o) no_instruction) r.1 ∙ ap (λ y. unwrap_or (read_in y) no_instruction) r.2;
+          accepted = p.2;
+        }
+
+    entry-ends : (calls : ℕ) → k < 2 ^ 32 → entry_answer h (with_calls calls m) s k ≡ Ok None → m.holds (mark_at k) ≡ Some (mark_bytes k) → ⊥
+    entry-ends calls l e is =
+        let on = with_calls calls m in
+        both_ways (good k (m.holds (mark_at k))) (tested on false (marked-ends on (mark_answer on k) e)) (mark-good m k l is)
+
+  -- a recovery that ended well at s has read this
+  record Reads (pairs : ℕ) (s : Standing) (found : Recovered) : Type 0 where
+    entries : Prefix found.count s found.last
+    within : found.count ≤ pairs
+    stop : found.count < pairs → m.holds (mark_at found.count) ≡ Some (mark_bytes found.count) → ⊥
+
+  ends-so : (pairs k : ℕ) (s : Standing) (last : Option Instruction) (found : Recovered) → Prefix k s last → k ≤ pairs → (k < pairs → m.holds (mark_at k) ≡ Some (mark_bytes k) → ⊥)
+      → ◌≡◌ {A = Result Recovered Fault} (Ok (record { count = k; last = last })) (Ok found) → Reads pairs s found
+  ends-so pairs k s last found p l stop e =
+      let is : record { count = k; last = last } ≡ found = cc in
+      subst (λ f. Reads pairs s f) is (record { entries = p; within = l; stop = stop })
+
+  module _ (pairs : ℕ) (few : pairs ≤ 32767) where
+    abbrev onward : ℕ → ℕ → ℕ → Standing → Instruction → Scan
+    onward n k calls s x = scan h n (with_calls (calls - 2) m) (k + 1) (effect s x) (Some x)
+
+    -- by what entry k answers, where what comes after it is known
+    turn-reads : (n k calls : ℕ) (s : Standing) (last : Option Instruction) (found : Recovered) → k < pairs → Prefix k s last
+        → ((x : Instruction) → ReadsEntry k s x → (onward n k calls s x).outcome ≡ Ok found → Reads pairs (onward n k calls s x).standing found)
+        → (r : Result (Option Instruction) Fault) → entry_answer h (with_calls calls m) s k ≡ r
+        → (turn r (with_calls calls m) k s last (onward n k calls s)).outcome ≡ Ok found → Reads pairs (turn r (with_calls calls m) k s last (onward n k calls s)).standing found
+    turn-reads n k calls s last found l p after (Ok None) is e = ends-so pairs k s last found p (omega arith) (λ r. entry-ends k s calls (omega arith) is) e
+    turn-reads n k calls s last found l p after (Ok (Some x)) is e = after x (entry-read k s calls x is) e
+    turn-reads n k calls s last found l p after (Err f) is e = absurd (cc)
+
+    scan-reads : (n k calls : ℕ) (s : Standing) (last : Option Instruction) (found : Recovered) → n + k ≡ pairs → Prefix k s last
+        → (scan h n (with_calls calls m) k s last).outcome ≡ Ok found → Reads pairs (scan h n (with_calls calls m) k s last).standing found
+    unfolding scan
+    scan-reads zero k calls s last found l p e = ends-so pairs k s last found p (omega arith) (λ r. absurd (omega arith)) e
+    scan-reads (suc n) k calls s last found l p e =
+        turn-reads n k calls s last found (omega arith) p
+        (λ x w o. scan-reads n (k + 1) (calls - 2) (effect s x) (Some x) found (omega arith) (one-more k s last x p w) o)
+        (entry_answer h (with_calls calls m) s k) refl e
+
+  -- by what the recovery answers
+  scanned-well : (pairs : ℕ) (z : Scan) (r : Result Recovered Fault) → Heads h m pairs → ((found : Recovered) → r ≡ Ok found → Reads pairs z.standing found)
+      → Opens h m (scanned_as r pairs (with_calls z.left m) z.standing) (scanned_as r pairs (with_calls z.left m) z.standing).mode
+  scanned-well pairs z (Ok found) w reads =
+      let r = reads found refl in
+      record {
+        head = w.head;
+        some = w.some;
+        fits = w.fits;
+        within = r.within;
+        marks = r.entries.marks;
+        records = r.entries.records;
+        stop = r.stop;
+        list = r.entries.list;
+        last = r.entries.is_last;
+        count = refl;
+      }
+  scanned-well pairs z (Err f) w reads = record { standing = refl; pairs = refl; found = refl; last = refl; count = refl }
+
+  -- and by what the header's checks answer
+  headed-well : (n : ℕ) (r : Result ℕ Fault) → header_answer register money m ≡ r → Opens h m (opened_on h (with_calls n m) r) (opened_on h (with_calls n m) r).mode
+  headed-well n (Ok pairs) e =
+      let w = heads pairs e in
+      let z = scan h pairs (with_calls n m) 0 empty None in
+      scanned-well pairs z z.outcome w (λ found o. scan-reads pairs w.fits.few pairs 0 n empty None found (omega arith) none-read o)
+  headed-well n (Err f) e = record { standing = refl; pairs = refl; found = refl; last = refl; count = refl }
+
+-- the list of the first n records has n instructions, each what its record says
+
+listed-length : (m : Medium) (n : ℕ) → length (listed m n) ≡ n
+unfolding listed
+listed-length m zero = refl
+listed-length m (suc n) = length_push (listed m n) (entry_in m n) ∙ omega (arith, listed-length m n)
+
+listed-at : (m : Medium) (n k : ℕ) → k < n → get_or (listed m n) k no_instruction ≡ entry_in m k
+unfolding listed
+listed-at m zero k l = absurd (omega arith)
+listed-at m (suc n) k l =
+    ⊎_elim (λ (i : k ≡ n). get_or_push (listed m n) (entry_in m n) no_instruction k (listed-length m n ∙ sym i) ∙ ap (entry_in m) (sym i))
+    (λ ne. get_or_append_left (listed m n) (entry_in m n ∷ []) no_instruction k (omega (arith, listed-length m n)) ∙ listed-at m n k (omega arith))
+    (cases_eq k n)
+
+fit-none : Fit no_instruction
+fit-none = record {
+  kind = lit< tt;
+  account = lit< tt;
+  counterparty = lit< tt;
+  item = lit< tt;
+  currency = lit< tt;
+  trade = lit< tt;
+  quantity = lit< tt;
+  amount = lit< tt;
+}
+
+-- a block that is the record of what it says is read so
+record-says : (k : ℕ) (x : Instruction) (r : Result Instruction Refusal) → k < 2 ^ 32 → record_in k (record_bytes k x) ≡ r → x ≡ unwrap_or (read_in r) no_instruction → read_in r ≡ Some x
+record-says k x (Ok y) l is e = ap Some (sym e)
+record-says k x (Err f) l is e =
+    let o : ◌≡◌ {A = Result Instruction Refusal} (Err f) (Ok no_instruction) = sym is ∙ ap (λ y. record_in k (record_bytes k y)) e ∙ record-read k no_instruction l fit-none in
+    absurd (cc)
+
+-- what an opening may find on a device, it does
+module _ (h : Rulebook) (m : Medium) (w : View) (f : FoundOn h m w) where
+  finds : Found (written_by h w.pairs) m (listed m w.found)
+  finds =
+      let n = listed-length m w.found in
+      record {
+        room = omega (arith, f.within);
+        marks = λ k l. f.marks k (omega arith);
+        records = λ k l.
+            let held = f.records k (omega arith) in
+            let says : entry_in m k ≡ unwrap_or (read_in (record_in k (record_bytes k (entry_in m k)))) no_instruction = ap (λ o. unwrap_or (record_says k o) no_instruction) held in (
+              record_bytes k (entry_in m k),
+              held,
+              record-says k (entry_in m k) _ (omega (arith, f.within, f.fits.few)) refl says ∙ ap Some (sym (listed-at m w.found k (omega arith))),
+            );
+        stop = λ l. subst (λ k. m.holds (mark_at k) ≡ Some (mark_bytes k) → ⊥) (sym n) (f.stop (omega arith));
+      }
+
+  promptly : Bounded m → (h.kind securities).code < 256 → (h.kind cash).code < 256 → 1 + 2 * w.pairs ≤ m.left → (opened h m).mode ≡ Open
+  promptly b r c calls =
+      let z = scan h w.pairs (drained 1 m) 0 empty None in
+      let ends = calls-find h w.pairs m (listed m w.found) w.standing f.fits.few b finds f.list (m.left - 1) in
+      ap (λ (v : View). v.mode) (then-scanned h w.pairs m f.some f.fits.few f.fits.within (λ none. omega arith) r c f.head)
+      ∙ ap (λ r. (scanned_as r w.pairs (with_calls z.left m) z.standing).mode) (ends.enough (omega arith))
+
+-- an opening only reads
+
+scanned-kept : (m : Medium) (pairs n : ℕ) (s : Standing) (r : Result Recovered Fault) → SameBlocks m (scanned_as r pairs (with_calls n m) s).medium
+scanned-kept m pairs n s (Ok f) = fewer-calls m n
+scanned-kept m pairs n s (Err f) = fewer-calls m n
+
+opened-kept : (h : Rulebook) (m : Medium) (n : ℕ) (r : Result ℕ Fault) → SameBlocks m (opened_on h (with_calls n m) r).medium
+opened-kept h m n (Ok pairs) = let z = scan h pairs (with_calls n m) 0 empty None in scanned-kept m pairs z.left z.standing z.outcome
+opened-kept h m n (Err f) = fewer-calls m n
+
+-- the device after the header's checks
+after-checked : (m : Medium) → (n : ℕ) × (after_header m ≡ with_calls n m)
+after-checked m =
+    elim (cases_Bool (leb m.size 0)) [
+      | inl z ↦ (m.left, cond-true (leb m.size 0) m (drained 1 m) z)
+      | inr some ↦ (m.left - 1, cond-false (leb m.size 0) m (drained 1 m) some)
+    ]
+
+-- What an opening found on any device, where that is so, and what it leaves of the device.
+module _ (h : Rulebook) (m : Medium) where
+  abbrev checks : Result ℕ Fault
+  checks = header_answer (h.kind securities).code (h.kind cash).code m
+
+  pub opens-well : {v : View} → v ≡ opened h m → Bounded m → Opens h m v v.mode
+  opens-well {v} is b =
+      let a = after-checked m in
+      let e : v ≡ opened_on h (with_calls a.0 m) checks = is ∙ ap (λ d. opened_on h d checks) a.1 in
+      subst (λ u. Opens h m u u.mode) (sym e) (headed-well h m b a.0 checks refl)
+
+  pub opens-keeping : {v : View} → v ≡ opened h m → SameBlocks m v.medium
+  opens-keeping {v} is =
+      let a = after-checked m in
+      let e : v ≡ opened_on h (with_calls a.0 m) checks = is ∙ ap (λ d. opened_on h d checks) a.1 in
+      subst (λ u. SameBlocks m u.medium) (sym e) (opened-kept h m a.0 checks)
+
+  pub opens-promptly : {v : View} → v ≡ opened h m → Bounded m → (h.kind securities).code < 256 → (h.kind cash).code < 256 → Prompt h m v.mode
+  opens-promptly is b r c w f calls = ap (λ (u : View). u.mode) is ∙ promptly h m w f b r c calls

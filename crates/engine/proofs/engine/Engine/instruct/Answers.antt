@@ -1,0 +1,33 @@
+use Rattle.std.proofs.Common.{◌≡◌, Ok, [], sym, subst, refl, ◌∙◌, rules}
+use Rattle.ledger.specs.View.{rulebook}
+use Rattle.book.specs.Rulings.{on_ok}
+use Rattle.device.specs.Traces.{Traced}
+use Rattle.rulebook.proofs.Givens.{accepted}
+use Rattle.engine.specs.View.{view}
+use Rattle.engine.proofs.Instructs.{carried-out}
+use Rattle.engine.specs.Instructing.{checked}
+use Rattle.engine.specs.Tracing.{entry_calls}
+use Rattle.engine.proofs.engine.Engine.instruct.Goals as goal
+
+pub returns-clause-done : goal.returns-clause-done
+returns-clause-done g c =
+    let h = rulebook g.R.Book.fixed g.C.Book.fixed in
+    let v = view g.D.Device.medium c.args.self.now in
+    let x = c.args.x.now in
+    carried-out {h = h} {x = x} {v = v} (search rules) (search rules) (λ p. record {
+      mode = p.mode;
+      medium = c.enter.ensures.after;
+      standing = c.instruct.ensures.after.after ∙ accepted h v.standing x p.accepted;
+      pairs = refl;
+      found = refl;
+      last = refl;
+      count = refl;
+    })
+
+pub returns-in-Err-clause-trace : goal.returns-in-Err-clause-trace
+returns-in-Err-clause-trace g c =
+    let h = rulebook g.R.Book.fixed g.C.Book.fixed in
+    let x = c.args.x.now in
+    let v = view g.D.Device.medium c.args.self.now in
+    let passed : checked h x v ≡ Ok tt = search rules in
+    subst (λ a. Traced g.D.Device.makes (on_ok a (entry_calls v.count x v.medium.left) []) c.args.self.now.device c.enter.new.device) (sym passed) c.in-Err.ensures.trace

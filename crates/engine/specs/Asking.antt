@@ -1,0 +1,43 @@
+-- What an engine answers of itself, and what its closing gives. Assumes nothing.
+use Rattle.std.specs.Prelude.{ℕ, Some, None, Ok, Err, Option, Result}
+use Rattle.answers.specs.declared.Refusal.{Refusal}
+use Rattle.answers.specs.declared.Refusal.TheVariants.{OpeningRefused}
+use Rattle.answers.specs.declared.Fault.{Fault}
+use Rattle.engine.specs.declared.engine.Mode.{Mode}
+use Rattle.engine.specs.declared.engine.Mode.TheVariants.{Open, Down, Refused}
+use Rattle.engine.specs.declared.slip.Slip.{Slip}
+use Rattle.engine.specs.declared.slip.Contents.{Contents}
+use Rattle.engine.specs.declared.slip.Verdict.{Verdict}
+use Rattle.engine.specs.Slips.{contents, judged, unknown}
+use Rattle.engine.specs.View.{View}
+
+-- the answer of its opening
+abbrev pub opening_answer : Mode → Result (Unit {0}) Fault
+opening_answer Open = Ok tt
+opening_answer (Down x) = Ok tt
+opening_answer (Refused f) = Err f
+
+-- an engine that is open or down answers a question, and one whose opening was refused does not
+abbrev pub if_answering : {X : Type 0} → Mode → Result X Refusal → Result X Refusal
+if_answering Open r = r
+if_answering (Down x) r = r
+if_answering (Refused f) r = Err OpeningRefused
+
+-- What the slip of a closing tells: how many entries stand, and what is in hand if power went; nothing where the opening was
+-- refused.
+abbrev pub told_by : Mode → ℕ → Option Contents
+told_by Open n = Some (record { entries = n; hand = None })
+told_by (Down x) n = Some (record { entries = n; hand = Some x })
+told_by (Refused f) n = unknown
+
+abbrev pub closing : View → Option Contents
+closing v = told_by v.mode v.count
+
+-- the verdict on a slip, or the slip itself where the opening was refused
+abbrev pub verdict_by : Mode → View → Slip → Result Verdict (Refusal × Slip)
+verdict_by Open v s = Ok (judged (contents s) v.found v.last)
+verdict_by (Down x) v s = Ok (judged (contents s) v.found v.last)
+verdict_by (Refused f) v s = Err (OpeningRefused, s)
+
+abbrev pub presented : View → Slip → Result Verdict (Refusal × Slip)
+presented v s = verdict_by v.mode v s

@@ -1,0 +1,65 @@
+-- What an instruction is answered, and what it leaves of the engine. Assumes nothing.
+use Rattle.std.specs.Prelude.{◌≡◌, ℕ, ◌+◌, cond, Ok, Err, nat_le}
+use Rattle.answers.specs.declared.Refusal.TheVariants.{JournalFull, OpeningRefused, EngineDown}
+use Rattle.answers.specs.Faults.{in_entry}
+use Rattle.instruction.specs.declared.Instruction.{Instruction}
+use Rattle.rulebook.specs.Rules.{Rulebook, about, fault_of, verdict, effect}
+use Rattle.device.specs.Calls.{Answer, and_then}
+use Rattle.journal.specs.Journal.{enter_answer, Entered}
+use Rattle.journal.specs.Blocks.{record_bytes, mark_bytes}
+use Rattle.engine.specs.declared.engine.Mode.{Mode}
+use Rattle.engine.specs.declared.engine.Mode.TheVariants.{Open, Down, Refused}
+use Rattle.engine.specs.View.{View}
+
+-- only an open engine goes on to what comes next
+abbrev pub ready : Mode → Instruction → Answer → Answer
+ready Open x next = next
+ready (Down y) x next = Err (fault_of x EngineDown)
+ready (Refused f) x next = Err (fault_of x OpeningRefused)
+
+-- all entries are used
+abbrev pub room_for : Instruction → View → Answer
+room_for x v = cond (nat_le v.pairs v.count) (Err (fault_of x JournalFull)) (Ok tt)
+
+-- the checks of an instruction in order, before anything is written: the engine, the rules, the room
+abbrev pub checked : Rulebook → Instruction → View → Answer
+checked h x v = ready v.mode x (and_then (verdict h v.standing x) (room_for x v))
+
+-- a fault met within entry k, where x was written
+abbrev pub within_entry : Instruction → ℕ → Answer → Answer
+within_entry x k (Ok u) = Ok tt
+within_entry x k (Err f) = Err (about x (in_entry k f))
+
+abbrev pub instruct_answer : Rulebook → Instruction → View → Answer
+instruct_answer h x v = and_then (checked h x v) (within_entry x v.count (enter_answer v.medium v.count))
+
+-- The entry is written and firm, and only then books and trades are changed.
+pub record Accepted (x : Instruction) (v v' : View) : Type 0 where
+  pub mode : v'.mode ≡ Open
+  pub medium : Entered (record_bytes v.count x) (mark_bytes v.count) v.count v.medium v'.medium
+  pub standing : v'.standing ≡ effect v.standing x
+  pub pairs : v'.pairs ≡ v.pairs
+  pub found : v'.found ≡ v.found
+  pub last : v'.last ≡ v.last
+  pub count : v'.count ≡ v.count + 1
+
+-- Power went while the entry was written: the instruction is in hand, and books and trades are as they were.
+pub record CutOff (x : Instruction) (v v' : View) : Type 0 where
+  pub mode : v'.mode ≡ Down x
+  pub medium : Entered (record_bytes v.count x) (mark_bytes v.count) v.count v.medium v'.medium
+  pub standing : v'.standing ≡ v.standing
+  pub pairs : v'.pairs ≡ v.pairs
+  pub found : v'.found ≡ v.found
+  pub last : v'.last ≡ v.last
+  pub count : v'.count ≡ v.count
+
+-- what is left, by what the checks answered and what the writing of the entry did; a check that refuses leaves all as it was
+abbrev pub LeftBy : Answer → Answer → Instruction → View → View → Type 0
+LeftBy (Err f) written x v v' = v' ≡ v
+LeftBy (Ok u) (Ok w) x v v' = Accepted x v v'
+LeftBy (Ok u) (Err f) x v v' = CutOff x v v'
+
+-- an instruction answered r leads the engine from v to v'
+pub record Instructed (h : Rulebook) (x : Instruction) (v v' : View) (r : Answer) : Type 0 where
+  pub answer : r ≡ instruct_answer h x v
+  pub after : LeftBy (checked h x v) (enter_answer v.medium v.count) x v v'

@@ -1,0 +1,87 @@
+// What an engine answers of itself.
+ghost use Rattle.std.specs.Prelude.{◌≡◌, IfOk, Ok};
+ghost use Rattle.rulebook.specs.Terms.{securities as in_securities, cash as in_cash};
+ghost use Rattle.ledger.specs.Rows.{state_question};
+ghost use Rattle.ledger.specs.View.{rulebook, holding_question};
+ghost use Rattle.engine.specs.View.{view};
+ghost use Rattle.engine.specs.Slips.{contents, Judges};
+ghost use Rattle.engine.specs.Asking.{opening_answer, if_answering, presented};
+
+use crate::engine::{Engine, Mode};
+use crate::slip::{Slip, Verdict};
+use answers::{Fault, Refusal};
+use book::{Book, Holding};
+use device::Device;
+use rulebook::State;
+
+impl<D: Device, R: Book, C: Book> Engine<D, R, C> {
+    // What the opening was answered.
+    pub fn opening(&self) -> Result<(), Fault>
+        ensures { result ≡ opening_answer (view D.medium self.now).mode }
+    {
+        match self.mode {
+            Mode::Refused(fault) => Err(fault),
+            Mode::Open | Mode::Down(_) => Ok(()),
+        }
+    }
+
+    // An engine whose opening was refused answers no question.
+    fn answering(&self) -> Result<(), Refusal>
+        ensures { result ≡ if_answering (view D.medium self.now).mode (Ok tt) }
+    {
+        self.opening().map_err(|_| Refusal::OpeningRefused)
+    }
+
+    // What an account has of an item of the register.
+    pub fn securities(&self, account: u16, item: u16) -> Result<Holding, Refusal>
+        ensures { let v = view D.medium self.now in result ≡ if_answering v.mode
+            (holding_question (rulebook R.fixed C.fixed) v.standing in_securities account item) }
+    {
+        self.answering()?;
+        self.ledger.securities(account, item)
+    }
+
+    // What an account has of a currency.
+    pub fn money(&self, account: u16, currency: u16) -> Result<Holding, Refusal>
+        ensures { let v = view D.medium self.now in result ≡ if_answering v.mode
+            (holding_question (rulebook R.fixed C.fixed) v.standing in_cash account currency) }
+    {
+        self.answering()?;
+        self.ledger.money(account, currency)
+    }
+
+    // The state of a trade.
+    pub fn trade_state(&self, number: u32) -> Result<State, Refusal>
+        ensures { let v = view D.medium self.now in result ≡ if_answering v.mode (state_question v.standing.state number) }
+    {
+        self.answering()?;
+        self.ledger.trade_state(number)
+    }
+
+    // How many entries stand.
+    pub fn entries(&self) -> Result<u32, Refusal>
+        ensures { let v = view D.medium self.now in result ≡ if_answering v.mode (Ok v.count) }
+    {
+        self.answering()?;
+        Ok(self.count)
+    }
+
+    // How many entries the opening found, 0 where it was refused.
+    pub fn found(&self) -> u32
+        ensures { result ≡ (view D.medium self.now).found }
+    {
+        self.found.count
+    }
+
+    // The verdict on a slip; where the opening was refused, the slip comes back.
+    pub fn present(&self, slip: Slip) -> Result<Verdict, (Refusal, Slip)>
+        ensures answer { result ≡ presented (view D.medium self.now) slip }
+        ensures exact { let v = view D.medium self.now in
+            IfOk result (λ verdict. Judges (contents slip) v.found v.last verdict) }
+    {
+        match self.mode {
+            Mode::Refused(_) => Err((Refusal::OpeningRefused, slip)),
+            Mode::Open | Mode::Down(_) => Ok(slip.judge(self.found.count, self.found.last)),
+        }
+    }
+}

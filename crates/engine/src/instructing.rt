@@ -1,0 +1,52 @@
+// Instructing: what the rules accept is written first, and only then carried out.
+ghost use Rattle.std.specs.Prelude.{◌≡◌, ◌<◌, IfOk};
+ghost use Rattle.ledger.specs.View.{rulebook};
+ghost use Rattle.device.specs.Traces.{Traced};
+ghost use Rattle.engine.specs.View.{view};
+ghost use Rattle.engine.specs.Instructing.{checked, Instructed};
+ghost use Rattle.engine.specs.Tracing.{instruct_calls};
+
+use crate::engine::{Engine, Mode};
+use crate::writing::enter;
+use answers::{Fault, Refusal};
+use book::Book;
+use device::Device;
+use instruction::Instruction;
+use rulebook::about;
+
+impl<D: Device, R: Book, C: Book> Engine<D, R, C> {
+    // The checks of an instruction, with nothing written.
+    fn check(&self, x: &Instruction) -> Result<(), Fault>
+        ensures answer { result ≡ checked (rulebook R.fixed C.fixed) x.now (view D.medium self.now) }
+        ensures room { IfOk result (λ _. self.now.count < self.now.pairs) }
+    {
+        match self.mode {
+            Mode::Refused(_) => return Err(about(x, Refusal::OpeningRefused.into())),
+            Mode::Down(_) => return Err(about(x, Refusal::EngineDown.into())),
+            Mode::Open => {}
+        }
+        self.ledger.judge(x)?;
+        if self.count >= self.pairs {
+            return Err(about(x, Refusal::JournalFull.into()));
+        }
+        Ok(())
+    }
+
+    // Carries out an instruction that the checks let pass, once its entry is written and firm.
+    pub fn instruct(&mut self, x: &Instruction) -> Result<(), Fault>
+        ensures done { Instructed (rulebook R.fixed C.fixed) x.now
+            (view D.medium self.old) (view D.medium self.new) result }
+        ensures trace { let v = view D.medium self.old in
+            Traced D.makes (instruct_calls (rulebook R.fixed C.fixed) x.now v) self.old.device self.new.device }
+    {
+        self.check(x)?;
+        if let Err(fault) = enter(&mut self.device, self.count, x) {
+            self.mode = Mode::Down(*x);
+            return Err(about(x, fault.in_entry(self.count)));
+        }
+        // Accepted, as the checks found it.
+        let _ = self.ledger.instruct(x);
+        self.count += 1;
+        Ok(())
+    }
+}

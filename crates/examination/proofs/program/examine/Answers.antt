@@ -1,0 +1,16 @@
+use Rattle.std.proofs.Common.{string_bytes, vec_items}
+use Rattle.std.proofs.lemmas.Result.{IfOk-weaker}
+use Rattle.examination.proofs.Prints.{prints-key, prints-refusal}
+use Rattle.examination.proofs.program.examine.Goals as goal
+
+pub returns-in-Ok-clause-text : goal.returns-in-Ok-clause-text
+returns-in-Ok-clause-text c =
+    IfOk-weaker c.key_text.result _ _
+    (λ text e. prints-key c.in_ok-device.device _ _ c.args.script.now (vec_items c.in-Ok.answers) _ (string_bytes text) c.in_ok-device.ensures c.new.ensures c.new-2.ensures c.in-Ok.ensures c.as_slice.ensures.value e)
+    c.key_text.ensures
+
+pub returns-in-Err-Refused-clause-text : goal.returns-in-Err-Refused-clause-text
+returns-in-Err-Refused-clause-text c =
+    IfOk-weaker c.refusal_text.result _ _
+    (λ text e. prints-refusal c.in_ok-device.device c.args.script.now c.in-Err-Refused.fault c.in-Err-Refused.field-0 (string_bytes text) c.in_ok-device.ensures c.in-Err-Refused.field-0-is c.in-Err-Refused.ensures e)
+    c.refusal_text.ensures
