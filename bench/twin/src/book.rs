@@ -4,6 +4,13 @@ use crate::fault::Refusal;
 
 pub const ACCOUNTS: u16 = 64;
 
+/// What an account has of an item.
+#[derive(Clone, Copy, Default, Debug, PartialEq, Eq)]
+pub struct Cell {
+    pub free: u64,
+    pub blocked: u64,
+}
+
 /// A book. A call that is refused changes nothing.
 pub trait Book {
     fn kind(&self) -> u8;
@@ -14,11 +21,24 @@ pub trait Book {
     fn clear(&mut self);
     fn credit(&mut self, account: u16, item: u16, quantity: u64) -> Result<(), Refusal>;
     fn block(&mut self, account: u16, item: u16, quantity: u64) -> Result<(), Refusal>;
-    fn release(&mut self, account: u16, item: u16, quantity: u64) -> Result<(), Refusal>;
     /// Takes from what `from` has blocked and adds to what `to` has free.
     fn transfer(&mut self, from: u16, to: u16, item: u16, quantity: u64) -> Result<(), Refusal>;
-    fn free(&self, account: u16, item: u16) -> Result<u64, Refusal>;
-    fn blocked(&self, account: u16, item: u16) -> Result<u64, Refusal>;
+    /// What an account has of an item; the book has both.
+    fn cell(&self, account: u16, item: u16) -> Cell;
+
+    fn release(&mut self, account: u16, item: u16, quantity: u64) -> Result<(), Refusal> {
+        self.transfer(account, account, item, quantity)
+    }
+
+    fn free(&self, account: u16, item: u16) -> Result<u64, Refusal> {
+        self.check_cell(account, item)?;
+        Ok(self.cell(account, item).free)
+    }
+
+    fn blocked(&self, account: u16, item: u16) -> Result<u64, Refusal> {
+        self.check_cell(account, item)?;
+        Ok(self.cell(account, item).blocked)
+    }
 
     /// Free and blocked together.
     fn holding(&self, account: u16, item: u16) -> Result<u64, Refusal> {
@@ -75,12 +95,6 @@ pub struct Balances {
     cells: Vec<Cell>,
 }
 
-#[derive(Clone, Copy, Default, Debug, PartialEq, Eq)]
-struct Cell {
-    free: u64,
-    blocked: u64,
-}
-
 impl Balances {
     const ITEMS: u16 = 16;
 
@@ -90,10 +104,6 @@ impl Balances {
 
     fn index(account: u16, item: u16) -> usize {
         usize::from(account) * usize::from(Self::ITEMS) + usize::from(item)
-    }
-
-    fn cell(&self, account: u16, item: u16) -> &Cell {
-        &self.cells[Self::index(account, item)]
     }
 
     fn cell_mut(&mut self, account: u16, item: u16) -> &mut Cell {
@@ -138,10 +148,6 @@ impl Book for Balances {
         Ok(())
     }
 
-    fn release(&mut self, account: u16, item: u16, quantity: u64) -> Result<(), Refusal> {
-        self.transfer(account, account, item, quantity)
-    }
-
     fn transfer(&mut self, from: u16, to: u16, item: u16, quantity: u64) -> Result<(), Refusal> {
         check_account(to)?;
         self.check(from, item, quantity)?;
@@ -151,14 +157,8 @@ impl Book for Balances {
         Ok(())
     }
 
-    fn free(&self, account: u16, item: u16) -> Result<u64, Refusal> {
-        self.check_cell(account, item)?;
-        Ok(self.cell(account, item).free)
-    }
-
-    fn blocked(&self, account: u16, item: u16) -> Result<u64, Refusal> {
-        self.check_cell(account, item)?;
-        Ok(self.cell(account, item).blocked)
+    fn cell(&self, account: u16, item: u16) -> Cell {
+        self.cells[Self::index(account, item)]
     }
 }
 
@@ -224,10 +224,6 @@ impl Book for Lots {
         Ok(())
     }
 
-    fn release(&mut self, account: u16, item: u16, quantity: u64) -> Result<(), Refusal> {
-        self.transfer(account, account, item, quantity)
-    }
-
     fn transfer(&mut self, from: u16, to: u16, item: u16, quantity: u64) -> Result<(), Refusal> {
         check_account(to)?;
         self.check(from, item, quantity)?;
@@ -238,14 +234,8 @@ impl Book for Lots {
         Ok(())
     }
 
-    fn free(&self, account: u16, item: u16) -> Result<u64, Refusal> {
-        self.check_cell(account, item)?;
-        Ok(u64::from(self.has(account, item, false)))
-    }
-
-    fn blocked(&self, account: u16, item: u16) -> Result<u64, Refusal> {
-        self.check_cell(account, item)?;
-        Ok(u64::from(self.has(account, item, true)))
+    fn cell(&self, account: u16, item: u16) -> Cell {
+        Cell { free: u64::from(self.has(account, item, false)), blocked: u64::from(self.has(account, item, true)) }
     }
 }
 

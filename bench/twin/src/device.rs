@@ -22,16 +22,22 @@ pub trait PoweredDevice: Device {
     fn restart(&mut self, calls: u32, remains: &[u8]);
 }
 
-/// The calls that are left, and the checks that both devices make of a call.
+/// An image in rows of one length, and the calls that are left: what both devices are made of, and the checks that they share.
 #[derive(Clone, Debug)]
-struct Meter {
+struct Rows<const ROW: usize> {
+    image: Vec<u8>,
     blocks: usize,
     left: u32,
 }
 
-impl Meter {
-    fn new(image: &[u8], row: usize, calls: u32) -> Meter {
-        Meter { blocks: (image.len() / row).min(MOST_BLOCKS), left: calls }
+impl<const ROW: usize> Rows<ROW> {
+    fn new(image: Vec<u8>, calls: u32) -> Rows<ROW> {
+        let blocks = (image.len() / ROW).min(MOST_BLOCKS);
+        Rows { image, blocks, left: calls }
+    }
+
+    fn row(&mut self, row: usize) -> &mut [u8] {
+        &mut self.image[row * ROW..(row + 1) * ROW]
     }
 
     /// Spends a call on a block, if it may be made, and gives the number of the block's row.
@@ -60,8 +66,7 @@ impl Meter {
 /// The simulated device. A row of its image is 514 bytes: 0 if readable, the kept bytes, 0 if not loose, the newer bytes.
 #[derive(Clone, Debug)]
 pub struct Simulated {
-    image: Vec<u8>,
-    meter: Meter,
+    rows: Rows<{ Simulated::ROW }>,
     /// The loose blocks' rows, so that a sync need not go over them all.
     loose: BTreeSet<usize>,
 }
@@ -73,21 +78,17 @@ impl Simulated {
     const NEWER: usize = 258;
 
     pub fn new(image: Vec<u8>, calls: u32) -> Simulated {
-        let meter = Meter::new(&image, Self::ROW, calls);
-        let loose = (0..meter.blocks).filter(|row| image[row * Self::ROW + Self::LOOSE] != 0).collect();
-        Simulated { image, meter, loose }
+        let mut rows = Rows::new(image, calls);
+        let loose = (0..rows.blocks).filter(|row| rows.row(*row)[Self::LOOSE] != 0).collect();
+        Simulated { rows, loose }
     }
 
     pub fn into_image(self) -> Vec<u8> {
-        self.image
+        self.rows.image
     }
 
     pub fn left(&self) -> u32 {
-        self.meter.left
-    }
-
-    fn row(&mut self, row: usize) -> &mut [u8] {
-        &mut self.image[row * Self::ROW..(row + 1) * Self::ROW]
+        self.rows.left
     }
 }
 
@@ -99,8 +100,8 @@ fn keep(row: &mut [u8], length: usize) {
 
 impl Device for Simulated {
     fn read(&mut self, block: u32, buffer: &mut [u8]) -> Result<(), Fault> {
-        let row = self.meter.spend_on(block, buffer.len())?;
-        let row = self.row(row);
+        let row = self.rows.spend_on(block, buffer.len())?;
+        let row = self.rows.row(row);
         let from = if row[Self::LOOSE] != 0 {
             Self::NEWER
         } else if row[0] == 0 {
@@ -113,8 +114,8 @@ impl Device for Simulated {
     }
 
     fn write(&mut self, block: u32, bytes: &[u8]) -> Result<(), Fault> {
-        let number = self.meter.spend_on(block, bytes.len())?;
-        let row = self.row(number);
+        let number = self.rows.spend_on(block, bytes.len())?;
+        let row = self.rows.row(number);
         row[Self::LOOSE] = 1;
         row[Self::NEWER..].copy_from_slice(bytes);
         self.loose.insert(number);
@@ -122,9 +123,9 @@ impl Device for Simulated {
     }
 
     fn sync(&mut self) -> Result<(), Fault> {
-        self.meter.spend()?;
+        self.rows.spend()?;
         for number in std::mem::take(&mut self.loose) {
-            let row = self.row(number);
+            let row = self.rows.row(number);
             keep(row, BLOCK);
             row[Self::LOOSE] = 0;
         }
@@ -132,7 +133,7 @@ impl Device for Simulated {
     }
 
     fn size(&self) -> u32 {
-        self.meter.blocks as u32
+        self.rows.blocks as u32
     }
 }
 
@@ -141,7 +142,7 @@ impl PoweredDevice for Simulated {
         let mut remains = remains.iter();
         for number in std::mem::take(&mut self.loose) {
             let remain = *remains.next().unwrap_or(&0);
-            let row = self.row(number);
+            let row = self.rows.row(number);
             match remain {
                 0 => {}
                 1 => keep(row, BLOCK),
@@ -155,42 +156,36 @@ impl PoweredDevice for Simulated {
             }
             row[Self::LOOSE] = 0;
         }
-        self.meter.left = calls;
+        self.rows.left = calls;
     }
 }
 
 /// The battery-backed device. A row of its image is 257 bytes: 0 if readable, the block's bytes. Nothing is ever loose.
 #[derive(Clone, Debug)]
 pub struct Battery {
-    image: Vec<u8>,
-    meter: Meter,
+    rows: Rows<{ Battery::ROW }>,
 }
 
 impl Battery {
     pub const ROW: usize = 257;
 
     pub fn new(image: Vec<u8>, calls: u32) -> Battery {
-        let meter = Meter::new(&image, Self::ROW, calls);
-        Battery { image, meter }
+        Battery { rows: Rows::new(image, calls) }
     }
 
     pub fn into_image(self) -> Vec<u8> {
-        self.image
+        self.rows.image
     }
 
     pub fn left(&self) -> u32 {
-        self.meter.left
-    }
-
-    fn row(&mut self, row: usize) -> &mut [u8] {
-        &mut self.image[row * Self::ROW..(row + 1) * Self::ROW]
+        self.rows.left
     }
 }
 
 impl Device for Battery {
     fn read(&mut self, block: u32, buffer: &mut [u8]) -> Result<(), Fault> {
-        let row = self.meter.spend_on(block, buffer.len())?;
-        let row = self.row(row);
+        let row = self.rows.spend_on(block, buffer.len())?;
+        let row = self.rows.row(row);
         if row[0] != 0 {
             return Err(Fault::from(Refusal::Unreadable).at_block(block));
         }
@@ -199,25 +194,25 @@ impl Device for Battery {
     }
 
     fn write(&mut self, block: u32, bytes: &[u8]) -> Result<(), Fault> {
-        let row = self.meter.spend_on(block, bytes.len())?;
-        let row = self.row(row);
+        let row = self.rows.spend_on(block, bytes.len())?;
+        let row = self.rows.row(row);
         row[0] = 0;
         row[1..].copy_from_slice(bytes);
         Ok(())
     }
 
     fn sync(&mut self) -> Result<(), Fault> {
-        self.meter.spend()
+        self.rows.spend()
     }
 
     fn size(&self) -> u32 {
-        self.meter.blocks as u32
+        self.rows.blocks as u32
     }
 }
 
 impl PoweredDevice for Battery {
     fn restart(&mut self, calls: u32, _remains: &[u8]) {
-        self.meter.left = calls;
+        self.rows.left = calls;
     }
 }
 
