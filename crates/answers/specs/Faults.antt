@@ -12,10 +12,6 @@ plain r = record { refusal = r; block = None; entry = None; trade = None; rule =
 abbrev pub at_block : Refusal → ℕ → Fault
 at_block r b = record { refusal = r; block = Some b; entry = None; trade = None; rule = None }
 
--- a refused instruction that names a trade
-abbrev pub on_trade : Refusal → ℕ → Fault
-on_trade r t = record { refusal = r; block = None; entry = None; trade = Some t; rule = None }
-
 -- a fault met within an entry of a journal
 abbrev pub in_entry : ℕ → Fault → Fault
 in_entry k f = record { refusal = f.refusal; block = f.block; entry = Some k; trade = f.trade; rule = f.rule }

@@ -1,5 +1,6 @@
 -- The refusals' numbers and places, as operators know them. Assumes nothing.
 use Rattle.std.specs.Prelude.{◌≡◌, ℕ, Ok, Err, Result}
+use Rattle.answers.specs.declared.Fault.{Fault}
 use Rattle.answers.specs.declared.Place.{Place}
 use Rattle.answers.specs.declared.Place.TheVariants.{Device, Book, Trades, Journal, Engine, Script}
 use Rattle.answers.specs.declared.Refusal.{Refusal}
@@ -49,6 +50,11 @@ number_of InputTooLong = 73
 abbrev pub answer_number : Result (Unit {0}) Refusal → ℕ
 answer_number (Ok u) = 0
 answer_number (Err r) = number_of r
+
+-- the same where a refusal comes as a fault
+abbrev pub fault_number : Result (Unit {0}) Fault → ℕ
+fault_number (Ok u) = 0
+fault_number (Err f) = number_of f.refusal
 
 abbrev pub place_of : Refusal → Place
 place_of NoBlock = Device

@@ -2,8 +2,8 @@
 #![tactic(auto)]
 
 ghost use Rattle.std.specs.Prelude.{◌≡◌};
-ghost use Rattle.answers.specs.Numbers.{number_of, answer_number, place_of, NumbersTellApart};
-ghost use Rattle.answers.specs.Faults.{plain, at_block, on_trade, in_entry, of_trade, of_record};
+ghost use Rattle.answers.specs.Numbers.{number_of, answer_number, fault_number, place_of, NumbersTellApart};
+ghost use Rattle.answers.specs.Faults.{plain, at_block, in_entry, of_trade, of_record};
 
 // The part of the engine that refuses.
 #[derive(Clone, Copy, Debug, PartialEq, Eq)]
@@ -74,8 +74,8 @@ impl Refusal {
             | Refusal::SameParties
             | Refusal::EverEntered
             | Refusal::WrongState => Place::Trades,
-            Refusal::Malformed => Place::Journal,
-            Refusal::JournalFull
+            Refusal::Malformed
+            | Refusal::JournalFull
             | Refusal::NotAHeader
             | Refusal::OtherKinds
             | Refusal::TooFewBlocks
@@ -97,6 +97,13 @@ pub fn answer_number(answer: Result<(), Refusal>) -> u8
     }
 }
 
+// The same where the refusal comes as a fault.
+pub fn fault_number(answer: Result<(), Fault>) -> u8
+    ensures { result ≡ fault_number answer }
+{
+    answer_number(answer.map_err(|fault| fault.refusal))
+}
+
 // A refusal with the block, entry and trade that it concerns, and, where the rules refused what a journal
 // holds, the rules' own refusal.
 #[derive(Clone, Copy, Debug, PartialEq, Eq)]
@@ -108,7 +115,6 @@ pub struct Fault {
     pub rule: Option<Refusal>,
 }
 
-// Each of these sets the one field that its name says, so none could be made of another.
 impl Fault {
     // A refusal that concerns no block, entry or trade.
     pub fn plain(refusal: Refusal) -> Fault
@@ -133,17 +139,7 @@ impl Fault {
         }
     }
 
-    // A refusal of an instruction that names a trade.
-    pub fn on_trade(refusal: Refusal, trade: u32) -> Fault
-        ensures { result ≡ on_trade refusal trade }
-    {
-        Fault {
-            trade: Some(trade),
-            ..Fault::plain(refusal)
-        }
-    }
-
-    // The same, met within an entry of a journal.
+    // This fault, met within an entry of a journal.
     pub fn in_entry(self, entry: u32) -> Fault
         ensures { result ≡ in_entry entry self }
     {

@@ -6,10 +6,10 @@ use Rattle.book.specs.declared.Holding.{Holding}
 use Rattle.book.specs.Holdings.{Holdings, total, limit, Deed, apply, crediting, blocking, moving, lowered}
 use Rattle.book.specs.Rulings.{ruling, outcome, asked, covering}
 use Rattle.book.proofs.Totals.{amount-le-total}
-use Rattle.book.proofs.Accepted.{outcome-ok, asked-ok, covers-ok, credit-fits, block-accepted, move-accepted, stays_within}
+use Rattle.book.proofs.Accepted.{outcome-ok, asked-ok, covers-ok, credit-fits, block-accepted, move-accepted, stays-within}
 use Rattle.balances.specs.declared.table.Balances.{Balances}
 use Rattle.balances.specs.Rows.{balances_kind, at, amounts, Full, Within}
-use Rattle.balances.specs.Put.{put, full_put, put-credit, put-block, put-lower}
+use Rattle.balances.proofs.Put.{put, full-put, put-credit, put-block, put-lower}
 
 pub record Done (rows next : List (List Holding)) (w : Deed) : Type 0 where
   pub answer : Ok tt ≡ ruling balances_kind (amounts rows) w
@@ -22,7 +22,7 @@ done rows next w within full e same = record {
   answer = e;
   after = same ∙ outcome-ok balances_kind (amounts rows) w e;
   full = full;
-  within = subst (λ (b : Holdings). (i : ℕ) → total b i ≤ limit balances_kind b i) (sym same) (stays_within balances_kind (amounts rows) w e within);
+  within = subst (λ (b : Holdings). (i : ℕ) → total b i ≤ limit balances_kind b i) (sym same) (stays-within balances_kind (amounts rows) w e within);
 }
 
 module _ (book : Balances) (A I q : ℕ) where
@@ -40,7 +40,7 @@ module _ (book : Balances) (A I q : ℕ) where
   credit-done e =
       let f = credit-fits balances_kind (amounts rows) A I q e in
       let t = row-there f.1 in
-      done rows _ (crediting A I q) book.within (full_put rows A I _ t book.full) e (put-credit rows A I q t (account-there f.0 f.1))
+      done rows _ (crediting A I q) book.within (full-put rows A I _ t book.full) e (put-credit rows A I q t (account-there f.0 f.1))
 
   pub credit-room : Ok tt ≡ ruling balances_kind (amounts rows) (crediting A I q) → (at rows A I).free + (at rows A I).blocked + q ≤ 1000000000000
   credit-room e = let f = credit-fits balances_kind (amounts rows) A I q e in omega (arith, amount-le-total (amounts rows) A I f.0, f.3)
@@ -63,7 +63,7 @@ module _ (book : Balances) (A I q : ℕ) where
           let m = covers-ok held.free q short c in
           let f : held.free ≡ (at rows A I).free = ap (λ h. h.free) place.2 in
           let same = ap (λ (h : Holding). amounts (put rows A I (record { free = h.free - q; blocked = h.blocked + q }))) place.2 in
-          done rows _ (blocking A I q) book.within (full_put rows A I _ t book.full)
+          done rows _ (blocking A I q) book.within (full-put rows A I _ t book.full)
           (block-accepted balances_kind (amounts rows) A I q place.0 place.1 m.0 (omega arith))
           (same ∙ put-block rows A I q t (account-there place.0 place.1))
 
@@ -76,7 +76,7 @@ module _ (book : Balances) (A I q : ℕ) where
         there = row-there place.1
 
         taken-full : Full taken
-        taken-full = full_put rows A I _ there book.full
+        taken-full = full-put rows A I _ there book.full
 
         taken_is : amounts taken ≡ record { free = (amounts rows).free; blocked = lowered (amounts rows).blocked A I q }
         taken_is = put-lower rows A I q there (account-there place.0 place.1)
@@ -90,14 +90,14 @@ module _ (book : Balances) (A I q : ℕ) where
         pub move-done : Done rows (put taken B I (record { free = (at taken B I).free + q; blocked = (at taken B I).blocked })) (moving A B I q)
         move-done =
             let t : I < length taken = omega (arith, taken-full.0, place.1) in
-            done rows _ (moving A B I q) book.within (full_put taken B I _ t taken-full) move-ok
+            done rows _ (moving A B I q) book.within (full-put taken B I _ t taken-full) move-ok
             (put-credit taken B I q t (omega (arith, taken-full.1 I place.1)) ∙ ap (λ b. apply b (crediting B I q)) taken_is)
 
         pub move-room : (at taken B I).free + (at taken B I).blocked + q ≤ 1000000000000
         move-room =
             let after = apply (amounts rows) (moving A B I q) in
             let most = amount-le-total after B I lb in
-            let room = stays_within balances_kind (amounts rows) (moving A B I q) move-ok book.within I in
+            let room = stays-within balances_kind (amounts rows) (moving A B I q) move-ok book.within I in
             let kept : (at taken B I).free ≡ (at rows B I).free = ap (λ b. b.free B I) taken_is in
             let low : (at taken B I).blocked ≡ after.blocked B I = ap (λ b. b.blocked B I) taken_is in
             let up : after.free B I ≡ (at rows B I).free + q = rw (eq-eqb B B refl, eq-eqb I I refl) in

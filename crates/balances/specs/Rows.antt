@@ -2,17 +2,15 @@
 use Rattle.std.specs.Prelude.{◌≡◌, ℕ, ◌<◌, ◌≤◌, List, [], length, slice_index_or}
 use Rattle.book.specs.declared.Holding.{Holding}
 use Rattle.book.specs.Holdings.{Holdings, BookKind, total, limit}
+use Rattle.book.specs.Rulings.{no_holding}
 
 -- kind byte 1: 16 items, each with a total of a million million at most
 abbrev pub balances_kind : BookKind
 balances_kind = record { code = 1; items = 16; ceiling = 1000000000000 }
 
-abbrev pub none : Holding
-none = record { free = 0; blocked = 0 }
-
 -- what an account has of an item: nothing outside the table
 abbrev pub at : List (List Holding) → ℕ → ℕ → Holding
-at rows account item = slice_index_or (slice_index_or rows item []) account none
+at rows account item = slice_index_or (slice_index_or rows item []) account no_holding
 
 abbrev pub amounts : List (List Holding) → Holdings
 amounts rows = record { free = λ account item. (at rows account item).free; blocked = λ account item. (at rows account item).blocked }

@@ -9,7 +9,7 @@ ghost use Rattle.book.specs.Holdings.{nothing};
 ghost use Rattle.book.specs.Rulings.{asked};
 ghost use Rattle.balances.specs.Rows.{balances_kind, at};
 ghost use Rattle.balances.specs.Meaning.{meaning};
-ghost use Rattle.balances.specs.Put.{at-outside};
+ghost use Rattle.balances.specs.Outside.{at-outside};
 
 use answers::Refusal;
 use book::{ACCOUNTS, Book, Holding, covers};

@@ -1,10 +1,10 @@
 -- What a battery-backed device means. Assumes nothing.
-use Rattle.std.specs.Prelude.{◌≡◌, ℕ, List, ◌∷◌, length, vec_items}
+use Rattle.std.specs.Prelude.{◌≡◌, ℕ, List, length, vec_items}
 use Rattle.device.specs.Medium.{Medium}
 use Rattle.device.specs.Calls.{admitted, if_ok}
-use Rattle.device.specs.Images.{blocks, held, put, imaged}
+use Rattle.device.specs.Images.{blocks, held, put, row, imaged}
 use Rattle.device.specs.Traces.{DeviceCall, reading, writing, syncing, restarting, ImageMade}
-use Rattle.battery.specs.Rows.{never_loose}
+use Rattle.battery.specs.Rows.{never_loose, written}
 use Rattle.battery.specs.declared.state.Battery.{Battery}
 
 abbrev pub image_of : Battery → List ℕ
@@ -15,7 +15,7 @@ meaning d = imaged 257 held never_loose (image_of d) d.rows.left
 
 -- the image after a write to block b
 abbrev pub image_written : List ℕ → ℕ → List ℕ → List ℕ
-image_written image b bytes = put 257 image b (0 ∷ bytes)
+image_written image b bytes = put 257 image b (written (row 257 image b) bytes)
 
 -- the image ys after a call of a device with the image xs and so many calls left
 abbrev pub ImageAfter : List ℕ → ℕ → DeviceCall → List ℕ → Type 0

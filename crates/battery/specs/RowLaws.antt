@@ -1,19 +1,13 @@
--- Rows of 257 bytes.
-use Rattle.std.specs.Prelude.{◌≡◌, ℕ, ◌+◌, List, ◌∷◌, ◌++◌, length, Some, None, slice_set}
+-- Rows of 257 bytes. Assumes nothing.
+use Rattle.std.specs.Prelude.{◌≡◌, ℕ, List, ◌∷◌, length, Some, None}
 use Rattle.std.proofs.Common.{sym, ap, subst, ◌∙◌, inl, inr, arith, length-take, length-drop}
-use borrow.Rule.Slice.PartMut.{put_mid}
-use Rattle.std.proofs.lemmas.List.{take_all, drop_all, append-nil}
+use Rattle.std.proofs.lemmas.List.{take_all}
 use Rattle.std.proofs.lemmas.Bool.{cases_Bool, cond-true, cond-false}
 use Rattle.device.specs.Bytes.{Bytes}
 use Rattle.device.specs.Images.{kept, readable, held}
 use Rattle.device.proofs.Meaning.{Shows}
-use Rattle.device.proofs.Splices.{store_is, cut-bytes}
+use Rattle.device.proofs.Splices.{cut-bytes}
 use Rattle.battery.specs.Rows.{written}
-
-pub stored : (r bytes : List ℕ) → length r ≡ 257 → length bytes ≡ 256 → put_mid 1 256 (slice_set r 0 0) bytes ≡ 0 ∷ bytes
-stored r bytes full n =
-    store_is r bytes 0 256 0 (omega arith) (omega arith)
-    ∙ ap (λ (zs : List ℕ). 0 ∷ (bytes ++ zs)) (drop_all (0 + length (0 ∷ bytes)) r (omega arith)) ∙ ap (λ (zs : List ℕ). 0 ∷ zs) (append-nil bytes)
 
 pub fills : (r bytes : List ℕ) → length r ≡ 257 → length bytes ≡ 256 → length (written r bytes) ≡ 257
 fills r bytes full n = omega arith
@@ -21,8 +15,8 @@ fills r bytes full n = omega arith
 pub held-stored : (bytes : List ℕ) → length bytes ≡ 256 → held (0 ∷ bytes) ≡ Some bytes
 held-stored bytes n = ap Some (take_all 256 bytes (omega arith))
 
-pub reads_back : (r bytes : List ℕ) → length r ≡ 257 → length bytes ≡ 256 → held (written r bytes) ≡ Some bytes
-reads_back r bytes full n = held-stored bytes n
+pub reads-back : (r bytes : List ℕ) → length r ≡ 257 → length bytes ≡ 256 → held (written r bytes) ≡ Some bytes
+reads-back r bytes full n = held-stored bytes n
 
 pub shows : Shows 257 held
 shows r x full bytes e =
@@ -33,6 +27,5 @@ shows r x full bytes e =
           (ap length same ∙ simp (length-take, length-drop) (omega arith), subst Bytes (sym same) (cut-bytes r 256 1 bytes))
       | inr n ↦
           let none : Some x ≡ None = sym e ∙ cond-false (readable r) _ _ n in
-          let z : ◌≡◌ {A = ℕ} 0 1 = cc in
-          absurd (omega arith)
+          absurd cc
     ]

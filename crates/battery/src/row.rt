@@ -2,7 +2,7 @@
 ghost use Rattle.std.specs.Prelude.{◌∷◌};
 ghost use Rattle.device.specs.Images.{held};
 ghost use Rattle.battery.specs.Rows.{never_loose, written};
-ghost use Rattle.battery.specs.RowLaws.{fills, reads_back};
+ghost use Rattle.battery.specs.RowLaws.{fills, reads-back};
 
 use device::{BLOCK, Layout, held_bytes};
 
@@ -29,5 +29,5 @@ impl Layout<ROW> for Kept {
 
     ghost fills = { fills };
 
-    ghost reads_back = { reads_back };
+    ghost reads_back = { reads-back };
 }

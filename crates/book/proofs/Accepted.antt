@@ -9,19 +9,16 @@ use Rattle.book.proofs.Asked.{asked-within}
 use Rattle.book.proofs.Totals.{credit-below, total-block, total-release, total-move}
 
 pass : (t : Bool) (e : Refusal) (r : Result (Unit {0}) Refusal) → Ok tt ≡ cond t (Err e) r → (t ≡ false) × (Ok tt ≡ r)
-pass true e r p = let z : ◌≡◌ {A = ℕ} 0 1 = cc in absurd (omega arith)
+pass true e r p = absurd cc
 pass false e r p = (refl, p)
 
 given : {X : Type 0} (s t : Bool) (x y : X) → Ok x ≡ cond s (Err NoAccount) (cond t (Err NoItem) (Ok y)) → (s ≡ false) × (t ≡ false) × (x ≡ y)
-given true t x y e = let z : ◌≡◌ {A = ℕ} 0 1 = cc in absurd (omega arith)
-given false true x y e = let z : ◌≡◌ {A = ℕ} 0 1 = cc in absurd (omega arith)
+given true t x y e = absurd cc
+given false true x y e = absurd cc
 given false false x y e = (refl, refl, cc)
 
 pub outcome-ok : (k : BookKind) (b : Holdings) (w : Deed) → Ok tt ≡ ruling k b w → apply b w ≡ outcome k b w
 outcome-ok k b w e = ap (λ r. on_ok r (apply b w) b) e
-
-pub outcome-err : (k : BookKind) (b : Holdings) (w : Deed) (r : Refusal) → Err r ≡ ruling k b w → b ≡ outcome k b w
-outcome-err k b w r e = ap (λ r. on_ok r (apply b w) b) e
 
 -- a question that is answered lies within the book
 pub asked-ok : {X : Type 0} (k : BookKind) (f : ℕ → ℕ → X) (a i : ℕ) (x : X) → Ok x ≡ asked k f a i → (a < 64) × (i < k.items) × (x ≡ f a i)
@@ -86,12 +83,12 @@ module _ (k : BookKind) (b : Holdings) where
   move-accepted A B I q la lb li lq l = let z = ne_eqb q 0 (omega arith) in rw (lt-leb 64 A la, lt-leb 64 B lb, lt-leb k.items I li, z, le-ltb (b.blocked A I) q l)
 
   -- no accepted deed takes an item's total past its limit
-  pub stays_within : (w : Deed) → Ok tt ≡ ruling k b w → ((i : ℕ) → total b i ≤ limit k b i) → (i : ℕ) → total (apply b w) i ≤ limit k (apply b w) i
-  stays_within keep e h i = h i
-  stays_within (crediting A I q) e h i = let f = credit-fits A I q e in credit-below b A I q i k.ceiling f.0 f.3 (h i)
-  stays_within (blocking A I q) e h i = omega (arith, total-block b A I q i (block-fits A I q e).3, h i)
-  stays_within (releasing A I q) e h i = omega (arith, total-release b A I q i (release-fits A I q e).3, h i)
-  stays_within (moving A B I q) e h i = let f = move-fits A B I q e in omega (arith, total-move b A I q i B f.0 f.1 f.4, h i)
+  pub stays-within : (w : Deed) → Ok tt ≡ ruling k b w → ((i : ℕ) → total b i ≤ limit k b i) → (i : ℕ) → total (apply b w) i ≤ limit k (apply b w) i
+  stays-within keep e h i = h i
+  stays-within (crediting A I q) e h i = let f = credit-fits A I q e in credit-below b A I q i k.ceiling f.0 f.3 (h i)
+  stays-within (blocking A I q) e h i = omega (arith, total-block b A I q i (block-fits A I q e).3, h i)
+  stays-within (releasing A I q) e h i = omega (arith, total-release b A I q i (release-fits A I q e).3, h i)
+  stays-within (moving A B I q) e h i = let f = move-fits A B I q e in omega (arith, total-move b A I q i B f.0 f.1 f.4, h i)
 
   -- a release is a transfer of an account to itself
   pub ruling-self : (A I q : ℕ) → ruling k b (moving A A I q) ≡ ruling k b (releasing A I q)

@@ -10,22 +10,22 @@ here-or-not A I a i =
     ⊎_elim (λ e. let p = and_parts (eqb A a) (eqb I i) e in inl (e, eqb-true A a p.0, eqb-true I i p.1)) (λ e. inr e) (cases_Bool (here A I a i))
 
 -- in the item meant, the account alone decides
-pub here_in : (A I a : ℕ) → here A I a I ≡ eqb A a
-here_in A I a = ap (λ t. eqb A a && t) (eq-eqb I I refl) ∙ elim (eqb A a) as (λ t. (t && true) ≡ t) [ true ↦ refl | false ↦ refl ]
+pub here-in : (A I a : ℕ) → here A I a I ≡ eqb A a
+here-in A I a = ap (λ t. eqb A a && t) (eq-eqb I I refl) ∙ elim (eqb A a) as (λ t. (t && true) ≡ t) [ true ↦ refl | false ↦ refl ]
 
 -- no other item changes
 pub here-not : (A I a i : ℕ) → (i ≡ I → ⊥) → here A I a i ≡ false
 here-not A I a i ne = and_right (eqb A a) (eqb I i) (ne_eqb I i (λ w. ne (sym w)))
 
 module _ (f : ℕ → ℕ → ℕ) (A I q a i : ℕ) where
-  at_place : A ≡ a → I ≡ i → f A I ≡ f a i
-  at_place x y = cc
+  at-place : A ≡ a → I ≡ i → f A I ≡ f a i
+  at-place x y = cc
 
-  pub kept_at : cond (here A I a i) (f A I) (f a i) ≡ f a i
-  kept_at = ⊎_elim (λ e. rw e.0 (at_place e.1 e.2)) (λ e. rw e) (here-or-not A I a i)
+  pub kept-at : cond (here A I a i) (f A I) (f a i) ≡ f a i
+  kept-at = ⊎_elim (λ e. rw e.0 (at-place e.1 e.2)) (λ e. rw e) (here-or-not A I a i)
 
-  pub raised_at : cond (here A I a i) (f A I + q) (f a i) ≡ raised f A I q a i
-  raised_at = ⊎_elim (λ e. rw e.0 (ap (λ n. n + q) (at_place e.1 e.2))) (λ e. rw e (omega arith)) (here-or-not A I a i)
+  pub raised-at : cond (here A I a i) (f A I + q) (f a i) ≡ raised f A I q a i
+  raised-at = ⊎_elim (λ e. rw e.0 (ap (λ n. n + q) (at-place e.1 e.2))) (λ e. rw e (omega arith)) (here-or-not A I a i)
 
   pub lowered-at : cond (here A I a i) (f A I - q) (f a i) ≡ lowered f A I q a i
-  lowered-at = ⊎_elim (λ e. rw e.0 (ap (λ n. n - q) (at_place e.1 e.2))) (λ e. rw e (omega arith)) (here-or-not A I a i)
+  lowered-at = ⊎_elim (λ e. rw e.0 (ap (λ n. n - q) (at-place e.1 e.2))) (λ e. rw e (omega arith)) (here-or-not A I a i)

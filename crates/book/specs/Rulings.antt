@@ -47,6 +47,10 @@ covering n q short = cond (q == 0) (Err NoQuantity) (cond (nat_lt n q) (Err shor
 abbrev pub asked : {X : Type 0} → BookKind → (ℕ → ℕ → X) → ℕ → ℕ → Result X Refusal
 asked k f a i = cond (nat_le 64 a) (Err NoAccount) (cond (nat_le k.items i) (Err NoItem) (Ok (f a i)))
 
+-- free and blocked of nothing
+abbrev pub no_holding : Holding
+no_holding = record { free = 0; blocked = 0 }
+
 abbrev pub holding_at : Holdings → ℕ → ℕ → Holding
 holding_at b a i = record { free = b.free a i; blocked = b.blocked a i }
 

@@ -6,6 +6,8 @@ ghost use Rattle.std.specs.Prelude.{◌≡◌, ℕ, ◌^◌, ◌<◌, ◌≤◌,
 ghost use Rattle.book.specs.Holdings.{Holdings, BookKind, nothing, limit, total, crediting, blocking, releasing, moving};
 ghost use Rattle.book.specs.Rulings.{ruling, outcome, asked, covering, holding_at, totalled};
 
+mod boxed;
+
 use answers::Refusal;
 
 // How many accounts a book has, numbered from 0.

@@ -1,5 +1,5 @@
 // Fills the journal, sees what comes after, and opens it again.
-use answers::Fault;
+use answers::fault_number;
 use balances::Balances;
 use book::Book;
 use device::PoweredDevice;
@@ -15,13 +15,6 @@ const PAIRS: u32 = 32_767;
 const IMAGE: usize = 65_535 * 514;
 
 type Opened = Engine<Simulated, Balances, Balances>;
-
-fn number(answer: Result<(), Fault>) -> u8 {
-    match answer {
-        Ok(()) => 0,
-        Err(fault) => fault.number(),
-    }
-}
 
 // Each entry issues one more than the one before, so that the total tells which of them stand.
 fn issue(quantity: u32) -> Instruction {
@@ -43,7 +36,7 @@ fn fill(engine: &mut Opened) -> u32 {
 
 // What an engine found when it was opened, and what it has now.
 fn tell(rt: &HostRuntime, engine: &Opened) -> io::Result<()> {
-    let answer = number(engine.opening());
+    let answer = fault_number(engine.opening());
     let found = engine.found();
     println!(rt; "open: {answer}, {found} entries found")?;
     tell_amounts(rt, engine)
@@ -83,13 +76,13 @@ pub(crate) fn run(rt: &HostRuntime) -> io::Result<()> {
     let mut device = Simulated::new(image, u32::MAX);
     let register = Balances::new();
     let cash = Balances::new();
-    let formatted = number(format(&mut device, PAIRS, register.kind(), cash.kind()));
+    let formatted = fault_number(format(&mut device, PAIRS, register.kind(), cash.kind()));
     println!(rt; "format: {formatted}")?;
     let mut engine = Engine::open(device, register, cash);
     tell(rt, &engine)?;
     let accepted = fill(&mut engine);
     println!(rt; "{accepted} instructions answered 0")?;
-    let next = number(engine.instruct(&issue(1)));
+    let next = fault_number(engine.instruct(&issue(1)));
     println!(rt; "one more: {next}")?;
     tell_amounts(rt, &engine)?;
     reopen(rt, engine)

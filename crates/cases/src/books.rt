@@ -1,4 +1,4 @@
-// Every call of both books, with each number at 0, at its largest and one past.
+// The changes and the questions of both books, with each number at 0, at its largest and one past.
 use answers::{Refusal, answer_number};
 use balances::Balances;
 use book::Book;

@@ -36,13 +36,6 @@ fn give_all<R: Book, C: Book>(
     Ok(())
 }
 
-fn on_trade(kind: Kind, trade: u32) -> Instruction {
-    Instruction {
-        trade,
-        ..Instruction::of_kind(kind)
-    }
-}
-
 // A kind byte that no kind has.
 fn unknown(kind: u8) -> Instruction {
     Instruction {
@@ -93,7 +86,7 @@ fn stray_credits<R: Book, C: Book>(
         rt,
         ledger,
         &[
-            ("Issue with a trade", on_trade(Kind::Issue, 1)),
+            ("Issue with a trade", Instruction::on_trade(Kind::Issue, 1)),
             ("Issue with an amount", issue_of_amount),
             ("Pay in with an item", pay_in_of_item),
             ("Pay in with a quantity", pay_in_of_quantity),
@@ -108,19 +101,19 @@ fn stray_trades<R: Book, C: Book>(
 ) -> anyhow::Result<()> {
     let earmark = Instruction {
         account: 1,
-        ..on_trade(Kind::Earmark, 128)
+        ..Instruction::on_trade(Kind::Earmark, 128)
     };
     let fund = Instruction {
         counterparty: 1,
-        ..on_trade(Kind::Fund, 127)
+        ..Instruction::on_trade(Kind::Fund, 127)
     };
     let settle = Instruction {
         currency: 1,
-        ..on_trade(Kind::Settle, u32::MAX)
+        ..Instruction::on_trade(Kind::Settle, u32::MAX)
     };
     let free = Instruction {
         amount: u64::MAX,
-        ..on_trade(Kind::Free, 0)
+        ..Instruction::on_trade(Kind::Free, 0)
     };
     give_all(
         rt,
@@ -132,6 +125,11 @@ fn stray_trades<R: Book, C: Book>(
             ("Free with an amount", free),
         ],
     )
+}
+
+// An instruction about the last trade that there is.
+fn on_last(kind: Kind) -> Instruction {
+    Instruction::on_trade(kind, 127)
 }
 
 // A whole settlement, and what comes too early, too late or twice.
@@ -151,7 +149,7 @@ fn settlement<R: Book, C: Book>(rt: &HostRuntime, ledger: &mut Ledger<R, C>) -> 
         counterparty: 2,
         quantity: 1,
         amount: 1,
-        ..on_trade(Kind::Enter, 127)
+        ..on_last(Kind::Enter)
     };
     give_all(
         rt,
@@ -159,15 +157,15 @@ fn settlement<R: Book, C: Book>(rt: &HostRuntime, ledger: &mut Ledger<R, C>) -> 
         &[
             ("Issue", issue),
             ("Pay in", pay_in),
-            ("Earmark before Enter", on_trade(Kind::Earmark, 127)),
+            ("Earmark before Enter", on_last(Kind::Earmark)),
             ("Enter", enter),
             ("Enter again", enter),
-            ("Settle before Earmark", on_trade(Kind::Settle, 127)),
-            ("Earmark", on_trade(Kind::Earmark, 127)),
-            ("Settle before Fund", on_trade(Kind::Settle, 127)),
-            ("Fund", on_trade(Kind::Fund, 127)),
-            ("Settle", on_trade(Kind::Settle, 127)),
-            ("Free after Settle", on_trade(Kind::Free, 127)),
+            ("Settle before Earmark", on_last(Kind::Settle)),
+            ("Earmark", on_last(Kind::Earmark)),
+            ("Settle before Fund", on_last(Kind::Settle)),
+            ("Fund", on_last(Kind::Fund)),
+            ("Settle", on_last(Kind::Settle)),
+            ("Free after Settle", on_last(Kind::Free)),
         ],
     )
 }

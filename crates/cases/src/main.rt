@@ -1,4 +1,5 @@
-// Bad and edge input for every call: each is answered, and what it is answered is compared with the file stdout.
+// Bad and edge input for the books' changes and questions, the ledger and scripts: each is answered, and what it is answered is
+// compared with the file stdout.
 #![tactic(auto)]
 
 mod books;

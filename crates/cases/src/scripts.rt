@@ -4,7 +4,6 @@ use examination::text::key_text;
 use examination::{Answer, Stop, answer_script, examine};
 use lots::Lots;
 
-// Prints a script's key.
 pub(crate) fn key(rt: &HostRuntime, script: &[u8]) -> anyhow::Result<()> {
     let text = examine(rt.alloc(), script)?;
     print!(rt; "{text}")?;

@@ -1,5 +1,5 @@
 // What is seen of a reply: the numbers that operators know, and amounts.
-use answers::{Fault, Refusal};
+use answers::{Refusal, fault_number};
 use book::Holding;
 use depository::{Fact, Opened, Reply};
 use engine::Verdict;
@@ -22,13 +22,6 @@ pub enum Seen {
     Misfit,
 }
 
-fn number(answer: Result<(), Fault>) -> u8 {
-    match answer {
-        Ok(()) => 0,
-        Err(fault) => fault.number(),
-    }
-}
-
 fn verdict_number(presented: Result<Verdict, Refusal>) -> u8 {
     match presented {
         Ok(verdict) => verdict.number(),
@@ -39,7 +32,7 @@ fn verdict_number(presented: Result<Verdict, Refusal>) -> u8 {
 impl From<Opened> for Seen {
     fn from(opened: Opened) -> Seen {
         Seen::Opened {
-            answer: number(opened.answer),
+            answer: fault_number(opened.answer),
             found: opened.found,
             presented: opened.presented.map(verdict_number),
         }
@@ -61,7 +54,7 @@ impl From<Reply> for Seen {
     fn from(reply: Reply) -> Seen {
         match reply {
             Reply::Done => Seen::Done,
-            Reply::Instructed(answer) => Seen::Answer(number(answer)),
+            Reply::Instructed(answer) => Seen::Answer(fault_number(answer)),
             Reply::Opened(opened) => opened.into(),
             Reply::Told(told) => told.into(),
             Reply::Misfit => Seen::Misfit,

@@ -39,27 +39,24 @@ fn enter(quantity: u64, amount: u64) -> Instruction {
     }
 }
 
-fn on_trade(kind: Kind) -> Instruction {
-    Instruction {
-        trade: TRADE,
-        ..Instruction::of_kind(kind)
-    }
-}
-
 // What stands before the cut.
 pub(crate) fn before(quantity: u64) -> [Instruction; 5] {
     [
         issue(0, quantity),
         pay_in(8_000),
         enter(quantity, 5_000),
-        on_trade(Kind::Earmark),
-        on_trade(Kind::Fund),
+        Instruction::on_trade(Kind::Earmark, TRADE),
+        Instruction::on_trade(Kind::Fund, TRADE),
     ]
 }
 
 // What is cut.
 pub(crate) fn last(quantity: u64) -> [Instruction; 3] {
-    [on_trade(Kind::Settle), issue(1, quantity), pay_in(600)]
+    [
+        Instruction::on_trade(Kind::Settle, TRADE),
+        issue(1, quantity),
+        pay_in(600),
+    ]
 }
 
 // A question, and what is told of it where none, one, two or all of the last instructions stand.

@@ -65,7 +65,7 @@ module _ (h : Rulebook) (most pairs : ℕ) (p : Paired pairs) (c₁ : (h.kind se
   stands t v k = record {
     list = ap (listed v.medium) k.count ∙ listed-is h pairs k.device.journal;
     runs = k.runs;
-    books = law-of-the-ledger h t.list v.standing k.runs;
+    said = law-of-the-ledger h t.list v.standing k.runs;
   }
 
   stands-by : (t : Tally) (v : View) (l : Option Contents) (m : Mode) → KeptBy h pairs t v l m → StandsBy h t.list v m

@@ -5,12 +5,12 @@ use Rattle.std.proofs.lemmas.Bool.{and_parts}
 use Rattle.answers.specs.declared.Refusal.{Refusal}
 use Rattle.answers.specs.declared.Refusal.TheVariants.{OpeningRefused, EngineDown, JournalFull}
 use Rattle.answers.specs.declared.Fault.{Fault}
-use Rattle.answers.specs.Faults.{plain, on_trade, of_trade, in_entry}
+use Rattle.answers.specs.Faults.{plain, of_trade, in_entry}
 use Rattle.answers.specs.Numbers.{number_of}
 use Rattle.instruction.specs.declared.Instruction.{Instruction}
 use Rattle.instruction.specs.Layout.{Fit}
 use Rattle.instruction.specs.Kinds.{kind_at}
-use Rattle.instruction.specs.declared.Kind.TheVariants.{Issue, PayIn, Enter, Earmark, Fund, Settle, Free}
+use Rattle.instruction.specs.declared.Kind.TheVariants.{Issue}
 use Rattle.book.specs.Rulings.{Check, first}
 use Rattle.rulebook.specs.declared.State.{State}
 use Rattle.rulebook.specs.declared.Terms.{Terms}
@@ -28,12 +28,12 @@ use Rattle.engine.specs.View.{View}
 use Rattle.engine.specs.declared.slip.Contents.{Contents}
 use Rattle.engine.specs.Lasting.{written_by}
 use Rattle.engine.specs.Instructing.{ready, room_for, checked, within_entry, Accepted, CutOff, LeftBy, Instructed}
-use Rattle.engine.proofs.Instructs.{LetPass, let_pass}
+use Rattle.engine.proofs.Instructs.{LetPass, let-pass}
 use Rattle.depository.specs.Tally.{Tally, fed_instruction}
 use Rattle.depository.proofs.Kept.{InEngine, KeptBy}
 
 -- what is said with a refusal does not change it
-fault-refusal-as : (b : Bool) (r : Refusal) (t : ℕ) → (cond b (on_trade r t) (plain r)).refusal ≡ r
+fault-refusal-as : (b : Bool) (r : Refusal) (t : ℕ) → (cond b (of_trade t (plain r)) (plain r)).refusal ≡ r
 fault-refusal-as true r t = refl
 fault-refusal-as false r t = refl
 
@@ -58,24 +58,19 @@ calm-first-as true c r rest n later e = let q : c ≡ r = cc in grind (arith, n,
 calm-first-as false c r rest n later e = later e
 
 calm-first : (cs : List Check) (r : Refusal) → calm cs ≡ true → first cs ≡ Err r → is13 r ≡ false
-calm-first [] r w e = absurd (let z : ◌≡◌ {A = ℕ} 0 1 = cc in omega arith)
+calm-first [] r w e = absurd cc
 calm-first (c ∷ cs) r w e =
     let p = and_parts (not (is13 c.refusal)) (calm cs) w in
     calm-first-as c.fails c.refusal r (first cs) p.0 (λ q. calm-first cs r p.1 q) e
 
 -- every rule has a number over 20, so that a 13 is never the rules' own
 calm-rules : (h : Rulebook) (k : Act) (o : State) (m : Terms) (s : Standing) (x : Instruction) → calm (all_checks h k o m s x) ≡ true
-calm-rules h (Some Issue) o m s x = refl
-calm-rules h (Some PayIn) o m s x = refl
-calm-rules h (Some Enter) o m s x = refl
-calm-rules h (Some Earmark) o m s x = refl
-calm-rules h (Some Fund) o m s x = refl
-calm-rules h (Some Settle) o m s x = refl
-calm-rules h (Some Free) o m s x = refl
 calm-rules h None o m s x = refl
+calm-rules h (Some Issue) o m s x = refl
+calm-rules h k o m s x = refl
 
 told-calm : (x : Instruction) (a : Result (Unit {0}) Refusal) (f : Fault) → ((r : Refusal) → a ≡ Err r → is13 r ≡ false) → with_trade x a ≡ Err f → is13 f.refusal ≡ false
-told-calm x (Ok u) f n e = absurd (let z : ◌≡◌ {A = ℕ} 0 1 = cc in omega arith)
+told-calm x (Ok u) f n e = absurd cc
 told-calm x (Err r) f n e =
     let q : fault_of x r ≡ f = cc in
     subst (λ g. is13 g.refusal ≡ false) q (ap is13 (fault-refusal x r) ∙ n r refl)
@@ -87,7 +82,7 @@ verdict-calm h s x f e =
 
 room-calm-as : (b : Bool) (x : Instruction) (f : Fault) → ◌≡◌ {A = Answer} (cond b (Err (fault_of x JournalFull)) (Ok tt)) (Err f) → is13 f.refusal ≡ false
 room-calm-as true x f e = let q : fault_of x JournalFull ≡ f = cc in subst (λ g. is13 g.refusal ≡ false) q (ap is13 (fault-refusal x JournalFull))
-room-calm-as false x f e = absurd (let z : ◌≡◌ {A = ℕ} 0 1 = cc in omega arith)
+room-calm-as false x f e = absurd cc
 
 room-calm : (x : Instruction) (v : View) (f : Fault) → room_for x v ≡ Err f → is13 f.refusal ≡ false
 room-calm x v f e = room-calm-as (leb v.pairs v.count) x f e
@@ -128,7 +123,7 @@ module _ (h : Rulebook) (pairs : ℕ) (few : pairs ≤ 32767) (t : Tally) (x : I
   idle-journal n k = subst (λ hand. Journal L v.medium t.list hand) n k.device.journal
 
   none-next : (s : Standing) → t.hand ≡ None → (y : Instruction) → t.hand ≡ Some y → answer h s y ≡ Ok tt
-  none-next s n y e = absurd (let z : ◌≡◌ {A = ℕ} 0 1 = cc in omega arith)
+  none-next s n y e = absurd cc
 
   added : LetPass h x v → t.hand ≡ None → InEngine h pairs t v → 3 < v.medium.left → Accepted x v v' → InEngine h pairs (record { list = t.list ++ (x ∷ []); hand = t.hand }) v'
   added p n k l a =
@@ -170,12 +165,12 @@ module _ (h : Rulebook) (pairs : ℕ) (few : pairs ≤ 32767) (t : Tally) (x : I
       let still : fed_instruction t x r ≡ t = ap (fed_instruction t x) er ∙ ap (λ b. record { list = t.list; hand = cond b (Some x) t.hand }) (checked-calm h x v f ec) in
       subst (λ u. KeptBy h pairs u v' l v'.mode) (sym still) (subst (λ u. KeptBy h pairs t u l u.mode) (sym same) k)
   leads (Ok u) (Ok w) r ec ew a er k =
-      let p = let_pass (sym ec) in
+      let p = let-pass (sym ec) in
       let i = idle p k in
       let now : KeptBy h pairs (fed_instruction t x (Ok tt)) v' l Open = (i.0, added p i.0 i.1 (enter-done v.medium v.count ew) a) in
       subst (λ a. KeptBy h pairs (fed_instruction t x a) v' l v'.mode) (sym er) (subst (λ m. KeptBy h pairs (fed_instruction t x (Ok tt)) v' l m) (sym a.mode) now)
   leads (Ok u) (Err f) r ec ew a er k =
-      let p = let_pass (sym ec) in
+      let p = let-pass (sym ec) in
       let i = idle p k in
       let cut = enter-cut v.medium v.count f ew in
       let is13-still : is13 (about x (in_entry v.count f)).refusal ≡ true = ap is13 (about-refusal-as (names_trade (kind_at x.kind)) (in_entry v.count f) x.trade) ∙ cut.0 in

@@ -25,25 +25,17 @@ use Rattle.depository.specs.Handling.{medium_in, Handled}
 use Rattle.depository.proofs.Fixing.{Settled}
 use Rattle.depository.specs.Law.{Course, Survives}
 
+view-same : {v w : View} → v.mode ≡ w.mode → v.medium ≡ w.medium → v.standing ≡ w.standing → v.pairs ≡ w.pairs → v.found ≡ w.found → v.last ≡ w.last → v.count ≡ w.count → v ≡ w
+view-same mode medium standing pairs found last count =
+    λ i. record { mode = mode i; medium = medium i; standing = standing i; pairs = pairs i; found = found i; last = last i; count = count i }
+
 -- but for the device, what an instruction leaves is fixed
 view-one : (c w : Answer) (x : Instruction) (v v₁ v₂ : View) → LeftBy c w x v v₁ → LeftBy c w x v v₂ → v₁.medium ≡ v₂.medium → v₁ ≡ v₂
 view-one (Err f) w x v v₁ v₂ one two e = one ∙ sym two
 view-one (Ok u) (Ok t) x v v₁ v₂ one two e =
-    let mode = one.mode ∙ sym two.mode in
-    let standing = one.standing ∙ sym two.standing in
-    let pairs = one.pairs ∙ sym two.pairs in
-    let found = one.found ∙ sym two.found in
-    let last = one.last ∙ sym two.last in
-    let count = one.count ∙ sym two.count in
-    λ i. record { mode = mode i; medium = e i; standing = standing i; pairs = pairs i; found = found i; last = last i; count = count i }
+    view-same (one.mode ∙ sym two.mode) e (one.standing ∙ sym two.standing) (one.pairs ∙ sym two.pairs) (one.found ∙ sym two.found) (one.last ∙ sym two.last) (one.count ∙ sym two.count)
 view-one (Ok u) (Err f) x v v₁ v₂ one two e =
-    let mode = one.mode ∙ sym two.mode in
-    let standing = one.standing ∙ sym two.standing in
-    let pairs = one.pairs ∙ sym two.pairs in
-    let found = one.found ∙ sym two.found in
-    let last = one.last ∙ sym two.last in
-    let count = one.count ∙ sym two.count in
-    λ i. record { mode = mode i; medium = e i; standing = standing i; pairs = pairs i; found = found i; last = last i; count = count i }
+    view-same (one.mode ∙ sym two.mode) e (one.standing ∙ sym two.standing) (one.pairs ∙ sym two.pairs) (one.found ∙ sym two.found) (one.last ∙ sym two.last) (one.count ∙ sym two.count)
 
 module _ {D S I : Type 0} (makes : D → DeviceCall → D → Type 0) (means : D → Medium) (seen : D → S) (image : D → I) (z : Settled makes means seen image) (h : Rulebook) (most : ℕ) where
   -- two ends of a call

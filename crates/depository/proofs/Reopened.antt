@@ -28,8 +28,7 @@ use Rattle.depository.proofs.Kept.{Matches, Paired, OnDevice, InEngine, KeptBy}
 
 nothing-is-some : {X : Type 0} {x : X} → ◌≡◌ {A = Option X} None (Some x) → ⊥
 nothing-is-some e =
-    let z : ◌≡◌ {A = ℕ} 0 1 = cc in
-    omega arith
+    cc
 
 same-self : (x : Instruction) → same_fields x x ≡ true
 same-self x =

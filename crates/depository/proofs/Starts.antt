@@ -24,7 +24,7 @@ use Rattle.depository.proofs.Kept.{Paired, Kept}
 use Rattle.depository.proofs.Courses.{survives}
 
 format-passes : (b : Bool) (e : Fault) (rest : Answer) → Ok tt ≡ cond b (Err e) rest → b ≡ false
-format-passes true e rest ok = absurd (let z : ◌≡◌ {A = ℕ} 0 1 = cc in omega arith)
+format-passes true e rest ok = absurd cc
 format-passes false e rest ok = refl
 
 -- a format that is answered 0 had room
@@ -69,7 +69,7 @@ module _ {D : Type 0} (makes : D → DeviceCall → D → Type 0) (means : D →
     kept = (
       record {
         journal = subst (λ head. Journal (layout head) (means e) [] None) (same-header h a b pairs ea eb) journal;
-        lawful = record { standing = empty; runs = start; next = λ x q. absurd (let z : ◌≡◌ {A = ℕ} 0 1 = cc in omega arith) };
+        lawful = record { standing = empty; runs = start; next = λ x q. absurd cc };
         size = omega (arith, (room pairs (means d).size roomy).within, (after roomy).size);
       },
       refl,

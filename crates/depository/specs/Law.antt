@@ -6,7 +6,7 @@ use Rattle.instruction.specs.declared.Instruction.{Instruction}
 use Rattle.book.specs.Holdings.{Holdings}
 use Rattle.rulebook.specs.Terms.{Side}
 use Rattle.rulebook.specs.Rules.{Rulebook, Runs}
-use Rattle.rulebook.specs.Law.{Balanced}
+use Rattle.rulebook.specs.Law.{SaidBy}
 use Rattle.rulebook.specs.Words.{LastWords}
 use Rattle.device.specs.Medium.{Medium}
 use Rattle.device.specs.Calls.{Answer}
@@ -68,13 +68,13 @@ Upheld (Told a) = Unit {0}
 Upheld Misfit = Unit {0}
 
 -- An engine has this list: it is what the records of its entries say, and the rules accept it, one instruction after another, and
--- lead by it to the books and the trades. For each account and item, free and blocked together are its credits and what it received,
--- less what it gave; and what is blocked is what its open trades hold.
+-- lead by it to the books and the trades. Each trade's state and terms are those that the list says. For each account and item, free and
+-- blocked together are its credits and what it received, less what it gave; and what is blocked is what its open trades hold.
 pub record Stands (h : Rulebook) (xs : List Instruction) (v : View) : Type 0 where
   -- no record here is one that says nothing: the rules would not accept what is listed in its place
   pub list : listed v.medium v.count ≡ xs
   pub runs : Runs h xs v.standing
-  pub books : (d : Side) (a i : ℕ) → Balanced d xs a i ((v.standing.book d).free a i) ((v.standing.book d).blocked a i)
+  pub said : SaidBy xs v.standing
 
 -- as does every engine that is open or down
 abbrev pub StandsBy : Rulebook → List Instruction → View → Mode → Type 0

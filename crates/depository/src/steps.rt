@@ -36,7 +36,7 @@ fn told<D: Device, R: Book, C: Book>(
 }
 
 impl<D: PoweredDevice, R: Book, C: Book> Depository<D, R, C> {
-    // In place, as a question: only what moves the device and the books takes the depository by value. That the instruction's
+    // In place, as a restart and a question: only what moves the device and the books takes the depository by value. That the instruction's
     // fields fit is said too: a caller that took it from a call would not know it.
     pub(crate) fn instruct(&mut self, x: Instruction) -> Reply
         ensures fit { Fit x }
@@ -69,20 +69,18 @@ impl<D: PoweredDevice, R: Book, C: Book> Depository<D, R, C> {
         }
     }
 
-    fn restart(self, calls: u32, remains: &[u8]) -> (Self, Reply)
+    pub(crate) fn restart(&mut self, calls: u32, remains: &[u8]) -> Reply
         ensures does { Does (rulebook R.fixed C.fixed) D.PoweredDevice.most
-            (moment_of self) (to_restart calls remains.now) result.1 (moment_of result.0) }
-        ensures device { Handled D.makes (rulebook R.fixed C.fixed) (moment_of self).phase (to_restart calls remains.now)
-            (device_of self.condition) (device_of result.0.condition) }
+            (moment_of self.old) (to_restart calls remains.now) result (moment_of self.new) }
+        ensures device { Handled D.makes (rulebook R.fixed C.fixed) (moment_of self.old).phase (to_restart calls remains.now)
+            (device_of self.old.condition) (device_of self.new.condition) }
     {
-        let Depository { condition, last } = self;
-        match condition {
-            Condition::Shut(mut device, register, cash) => {
+        match &mut self.condition {
+            Condition::Shut(device, _, _) => {
                 device.restart(calls, remains);
-                let condition = Condition::Shut(device, register, cash);
-                (Depository { condition, last }, Reply::Done)
+                Reply::Done
             }
-            condition => (Depository { condition, last }, Reply::Misfit),
+            Condition::Running(_) => Reply::Misfit,
         }
     }
 
@@ -135,7 +133,10 @@ impl<D: PoweredDevice, R: Book, C: Book> Depository<D, R, C> {
                 (self, reply)
             }
             Call::Close => self.close(),
-            Call::Restart { calls, remains } => self.restart(*calls, remains),
+            Call::Restart { calls, remains } => {
+                let reply = self.restart(*calls, remains);
+                (self, reply)
+            }
             Call::Open => self.open(),
             Call::Ask(question) => {
                 let reply = self.ask(question);

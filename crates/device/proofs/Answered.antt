@@ -1,11 +1,11 @@
 -- What an answer tells, and how a read's promise is made from what the block holds.
-use Rattle.std.proofs.Common.{◌≡◌, ℕ, ◌<◌, eqb, List, length, Some, None, Ok, Err, Option, sym, refl, ap, ◌∙◌, inl, inr, arith}
+use Rattle.std.proofs.Common.{◌≡◌, ℕ, ◌<◌, eqb, List, length, Ok, Err, sym, refl, ap, ◌∙◌, inl, inr, arith}
 use Rattle.std.proofs.lemmas.Bool.{cond-true, cond-false, lt-leb, eq-eqb, eqb-true, eqb-false, cases_Bool}
 use Rattle.answers.specs.declared.Refusal.TheVariants.{NoCalls}
 use Rattle.answers.specs.declared.Fault.{Fault}
 use Rattle.answers.specs.Faults.{plain, at_block}
 use Rattle.device.specs.Medium.{Medium}
-use Rattle.device.specs.Calls.{Answer, admitted, and_then, write-answer, found, filled, Read, Write, Sync}
+use Rattle.device.specs.Calls.{Answer, admitted, and_then, Write, Sync}
 
 -- a call on block b with n bytes that passed the checks
 pub record Passed (size left b n : ℕ) : Type 0 where
@@ -30,8 +30,7 @@ refused size left b n e h l w =
           (cc, eqb-true left 0 t)
       | inr f ↦
           let q : Err e ≡ Ok tt = h ∙ p ∙ cond-false _ _ _ f in
-          let z : ◌≡◌ {A = ℕ} 0 1 = cc in
-          absurd (omega arith)
+          absurd cc
     ]
 
 -- What a caller learns of its device: the record shows its media, so they need not be written.
@@ -46,8 +45,7 @@ sync-passed {m} {m'} s =
     elim (cases_Bool (eqb m.left 0)) [
       | inl t ↦
           let q : Ok tt ≡ Err (plain NoCalls) = s.answer ∙ cond-true (eqb m.left 0) _ _ t in
-          let z : ◌≡◌ {A = ℕ} 0 1 = cc in
-          absurd (omega arith)
+          absurd cc
       | inr f ↦ let n = eqb-false m.left 0 f in omega arith
     ]
 
@@ -59,24 +57,10 @@ sync-refused {m} {m'} {e} s =
           (cc, eqb-true m.left 0 t)
       | inr f ↦
           let q : Err e ≡ Ok tt = s.answer ∙ cond-false (eqb m.left 0) _ _ f in
-          let z : ◌≡◌ {A = ℕ} 0 1 = cc in
-          absurd (omega arith)
+          absurd cc
     ]
 
 pub then-passed : (x y : Answer) → Ok tt ≡ and_then x y → (x ≡ Ok tt) × (y ≡ Ok tt)
 then-passed (Ok x) y e = (refl, sym e)
 then-passed (Err f) y e =
-    let z : ◌≡◌ {A = ℕ} 0 1 = cc in
-    absurd (omega arith)
-
-held_found : (b : ℕ) (o : Option (List ℕ)) (old : List ℕ) → found b o ≡ Ok tt → o ≡ Some (filled o old)
-held_found b (Some bytes) old e = refl
-held_found b None old e =
-    let z : ◌≡◌ {A = ℕ} 0 1 = cc in
-    absurd (omega arith)
-
--- an accepted read tells what the block holds
-pub read-passed : {m m' : Medium} {b : ℕ} {old new : List ℕ} → Read m m' b old new (Ok tt) → Passed m.size m.left b (length old) × (m.holds b ≡ Some new)
-read-passed {m} {m'} {b} {old} {new} r =
-    let p = then-passed (write-answer m b (length old)) (found b (m.holds b)) r.answer in
-    (passed m.size m.left b (length old) p.0, held_found b (m.holds b) old p.1 ∙ ap Some (sym r.buffer))
+    absurd cc

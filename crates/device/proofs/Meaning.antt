@@ -1,13 +1,13 @@
 -- What an image means, row by row.
 use Rattle.std.proofs.Common.{◌≡◌, ℕ, ◌-◌, ◌*◌, ◌^◌, ◌<◌, ◌≤◌, Bool, false, ltb, List, length, Some, None, Ok, Option, sym, refl, ap, ◌∙◌, inl, inr, arith}
-use Rattle.std.proofs.lemmas.Bool.{lt-ltb, le-ltb, ltb-true, cases_Bool, cond-true, cond-false}
+use Rattle.std.proofs.lemmas.Bool.{lt-ltb, le-ltb, ltb-true, cases_Bool, cases_lt, cond-true, cond-false}
 use Rattle.device.specs.Medium.{Bounded}
 use Rattle.device.specs.Calls.{admitted, Elsewhere, Write}
 use Rattle.device.specs.Bytes.{Bytes}
 use Rattle.device.specs.Images.{blocks, row, put, of_row, imaged}
 use Rattle.device.proofs.Answered.{passed}
 use Rattle.device.proofs.Splices.{cut-bytes}
-use Rattle.device.proofs.Rows.{room, row-full, same_blocks, put-length, row_same, row_other}
+use Rattle.device.proofs.Rows.{room, same-blocks, put-length, row-same, row-other, row-whole}
 
 module _ {A : Type 0} (w : ℕ) (f : List ℕ → A) (none : A) where
   pub of-row-here : (image : List ℕ) (b : ℕ) → b < blocks w image → of_row w f none image b ≡ f (row w image b)
@@ -16,22 +16,20 @@ module _ {A : Type 0} (w : ℕ) (f : List ℕ → A) (none : A) where
   pub of-row-past : (image : List ℕ) (b : ℕ) → blocks w image ≤ b → of_row w f none image b ≡ none
   of-row-past image b h = cond-false _ _ _ (le-ltb b (blocks w image) h)
 
-  -- two images that f does not tell apart at block b
-  pub of-row-same : (xs ys : List ℕ) (b : ℕ) → length ys ≡ length xs → (b < blocks w xs → f (row w ys b) ≡ f (row w xs b)) → of_row w f none ys b ≡ of_row w f none xs b
-  of-row-same xs ys b len h =
-      let e = same_blocks w xs ys len in
-      elim (cases_Bool (ltb b (blocks w xs))) [
-        | inl t ↦ rw (e, t) (h (ltb-true b (blocks w xs) t))
-        | inr n ↦ rw (e, n)
+  of-row-at : (xs ys : List ℕ) (b : ℕ) (x : A) → length ys ≡ length xs → (b < blocks w xs → f (row w ys b) ≡ x) → (blocks w xs ≤ b → none ≡ x) → of_row w f none ys b ≡ x
+  of-row-at xs ys b x len here past =
+      let e = same-blocks w xs ys len in
+      elim (cases_lt b (blocks w xs)) [
+        | inl l ↦ of-row-here ys b (omega (arith, e)) ∙ here l
+        | inr g ↦ of-row-past ys b (omega (arith, e)) ∙ past g
       ]
 
+  -- two images that f does not tell apart at block b
+  pub of-row-same : (xs ys : List ℕ) (b : ℕ) → length ys ≡ length xs → (b < blocks w xs → f (row w ys b) ≡ f (row w xs b)) → of_row w f none ys b ≡ of_row w f none xs b
+  of-row-same xs ys b len h = of-row-at xs ys b _ len (λ l. h l ∙ sym (of-row-here xs b l)) (λ g. sym (of-row-past xs b g))
+
   pub of-row-none : (xs ys : List ℕ) (b : ℕ) → length ys ≡ length xs → (b < blocks w xs → f (row w ys b) ≡ none) → of_row w f none ys b ≡ none
-  of-row-none xs ys b len h =
-      let e = same_blocks w xs ys len in
-      elim (cases_Bool (ltb b (blocks w xs))) [
-        | inl t ↦ rw (e, t) (h (ltb-true b (blocks w xs) t))
-        | inr n ↦ rw (e, n)
-      ]
+  of-row-none xs ys b len h = of-row-at xs ys b none len h (λ g. refl)
 
 -- what a row reads as is a block
 abbrev pub Shows : ℕ → (List ℕ → Option (List ℕ)) → Type 0
@@ -45,11 +43,10 @@ module _ (w : ℕ) (shown : List ℕ → Option (List ℕ)) (is_loose : List ℕ
       elim (cases_Bool (ltb b (blocks w image))) [
         | inl t ↦
             let h = ltb-true b (blocks w image) t in
-            shows (row w image b) x (row-full w image b (room w image b h)) (cut-bytes image w (w * b) bytes) (sym (of-row-here w shown None image b h) ∙ e)
+            shows (row w image b) x (row-whole w image b h) (cut-bytes image w (w * b) bytes) (sym (of-row-here w shown None image b h) ∙ e)
         | inr n ↦
             let no_block : None ≡ Some x = sym (cond-false (ltb b (blocks w image)) _ _ n) ∙ e in
-            let z : ◌≡◌ {A = ℕ} 0 1 = cc in
-            absurd (omega arith)
+            absurd cc
       ] in
       record {
         few = omega arith;
@@ -67,15 +64,15 @@ module _ (w : ℕ) (shown : List ℕ → Option (List ℕ)) (is_loose : List ℕ
 
     pub put-elsewhere : (left left' : ℕ) → Elsewhere (imaged w shown is_loose image left) (imaged w shown is_loose (put w image b r) left') b
     put-elsewhere left left' = record {
-      size = same_blocks w image (put w image b r) fits;
-      holds = λ k away. of-row-same w shown None image (put w image b r) k fits (λ _. ap shown (row_other w image b r (room w image b in-range) full k away));
-      loose = λ k away. of-row-same w is_loose false image (put w image b r) k fits (λ _. ap is_loose (row_other w image b r (room w image b in-range) full k away));
+      size = same-blocks w image (put w image b r) fits;
+      holds = λ k away. of-row-same w shown None image (put w image b r) k fits (λ _. ap shown (row-other w image b r (room w image b in-range) full k away));
+      loose = λ k away. of-row-same w is_loose false image (put w image b r) k fits (λ _. ap is_loose (row-other w image b r (room w image b in-range) full k away));
     }
 
     pub put-here : of_row w shown None (put w image b r) b ≡ shown r
     put-here =
-        let here : b < blocks w (put w image b r) = rw (same_blocks w image (put w image b r) fits) in-range in
-        of-row-here w shown None (put w image b r) b here ∙ ap shown (row_same w image b r (room w image b in-range) full)
+        let here : b < blocks w (put w image b r) = rw (same-blocks w image (put w image b r) fits) in-range in
+        of-row-here w shown None (put w image b r) b here ∙ ap shown (row-same w image b r (room w image b in-range) full)
 
   -- an admitted write, by which the row reads as the bytes
   pub write-row : (image : List ℕ) (left b : ℕ) (bytes r : List ℕ) → admitted (blocks w image) left b (length bytes) ≡ Ok tt → length r ≡ w → shown r ≡ Some bytes → Write (imaged w shown is_loose image left) (imaged w shown is_loose (put w image b r) (left - 1)) b bytes (Ok tt)

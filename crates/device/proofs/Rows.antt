@@ -13,19 +13,23 @@ use Rattle.device.proofs.Splices.{length-splice, splice-outside, cut-outside, cu
 pub row-end : (w k : ℕ) → w * (k + 1) ≡ w * k + w
 row-end w k = mul-add w k 1 ∙ ap (λ (n : ℕ). w * k + n) (omega arith)
 
-pub row_before : (w k b : ℕ) → k < b → w * k + w ≤ w * b
-row_before w k b h = omega (arith, row-end w k, mul-le-mul_left {m = k + 1} {n = b} w (omega arith))
+pub row-before : (w k b : ℕ) → k < b → w * k + w ≤ w * b
+row-before w k b h = omega (arith, row-end w k, mul-le-mul_left {m = k + 1} {n = b} w (omega arith))
 
 pub room : (w : ℕ) (image : List ℕ) (b : ℕ) → b < blocks w image → w * b + w ≤ length image
 room w image b h =
     let l : b < length image / w = omega arith in
-    omega (arith, row_before w b (length image / w) l, div-mul-le_self (length image) w, mul_comm (length image / w) w)
+    omega (arith, row-before w b (length image / w) l, div-mul-le_self (length image) w, mul_comm (length image / w) w)
 
 pub row-full : (w : ℕ) (image : List ℕ) (b : ℕ) → w * b + w ≤ length image → length (row w image b) ≡ w
 row-full w image b h = simp (length-take, length-drop) (omega arith)
 
-pub same_blocks : (w : ℕ) (xs ys : List ℕ) → length ys ≡ length xs → blocks w ys ≡ blocks w xs
-same_blocks w xs ys e = ap (λ (n : ℕ). min (n / w) 65535) e
+-- a row of the image is whole
+pub row-whole : (w : ℕ) (image : List ℕ) (b : ℕ) → b < blocks w image → length (row w image b) ≡ w
+row-whole w image b h = row-full w image b (room w image b h)
+
+pub same-blocks : (w : ℕ) (xs ys : List ℕ) → length ys ≡ length xs → blocks w ys ≡ blocks w xs
+same-blocks w xs ys e = ap (λ (n : ℕ). min (n / w) 65535) e
 
 -- what a slice of the image shows is the row
 pub slice-row : (w : ℕ) (xs s : List ℕ) (b : ℕ) → s ≡ xs → take (w * b + w - w * b) (drop (w * b) s) ≡ row w xs b
@@ -40,20 +44,20 @@ module _ (w : ℕ) (image : List ℕ) (b : ℕ) (r : List ℕ) (in-range : w * b
   pub put-length : length (put w image b r) ≡ length image
   put-length = length-splice image (w * b) r fits
 
-  pub row_same : row w (put w image b r) b ≡ r
-  row_same = ap (λ (n : ℕ). take n (drop (w * b) (put w image b r))) (sym full) ∙ cut-same image (w * b) r fits
+  pub row-same : row w (put w image b r) b ≡ r
+  row-same = ap (λ (n : ℕ). take n (drop (w * b) (put w image b r))) (sym full) ∙ cut-same image (w * b) r fits
 
-  pub row_other : (k : ℕ) → k ≢ b → row w (put w image b r) k ≡ row w image k
-  row_other k away =
+  pub row-other : (k : ℕ) → k ≢ b → row w (put w image b r) k ≡ row w image k
+  row-other k away =
       cut-outside image (w * b) r fits (w * k) w
       (elim (cases_order k b) [
         | inl e ↦ absurd (away e)
-        | inr (inl l) ↦ inl (row_before w k b l)
-        | inr (inr g) ↦ inr (omega (arith, row_before w b k g))
+        | inr (inl l) ↦ inl (row-before w k b l)
+        | inr (inr g) ↦ inr (omega (arith, row-before w b k g))
       ])
 
   pub rest-same : (n k : ℕ) → b < n → w * n ≤ k → get_or (put w image b r) k 0 ≡ get_or image k 0
-  rest-same n k h l = splice-outside image (w * b) r fits k (inr (omega (arith, row_before w b n h)))
+  rest-same n k h l = splice-outside image (w * b) r fits k (inr (omega (arith, row-before w b n h)))
 
 -- the Vec of the image, after a write of r to the row's slice: s is what the image lent, and new what the slice holds
 pub lent-put : (w : ℕ) (v : Vec ℕ Global) (s : List ℕ) (b : ℕ) (new r : List ℕ) → b < blocks w v.items → s ≡ v.items → new ≡ r → length r ≡ w → (with_items v (put_mid (w * b) (w * b + w - w * b) s new)).items ≡ put w v.items b r
@@ -68,16 +72,16 @@ row-at : (w : ℕ) (xs : List ℕ) (b k : ℕ) → k < w → get_or (row w xs b)
 row-at w xs b k l = get_or-take w _ k 0 l ∙ get_or-drop (w * b) xs k 0
 
 -- what is not yet gone over is as it was
-pub each_next : (w : ℕ) (f : ℕ → List ℕ → List ℕ) (n : ℕ) (xs ys : List ℕ) → EachRow w f n xs ys → row w ys n ≡ row w xs n
-each_next w f n xs ys s =
+pub each-next : (w : ℕ) (f : ℕ → List ℕ → List ℕ) (n : ℕ) (xs ys : List ℕ) → EachRow w f n xs ys → row w ys n ≡ row w xs n
+each-next w f n xs ys s =
     ext_get_or 0 _ _ (simp (length-take, length-drop, s.len))
     (λ k l.
     let i : k < w = omega (arith, length-take w (drop (w * n) ys)) in
     row-at w ys n k i ∙ s.rest (w * n + k) (omega arith) ∙ sym (row-at w xs n k i))
 
 -- one row more, from the first on
-pub each_more : (w : ℕ) (f : ℕ → List ℕ → List ℕ) (n : ℕ) (xs ys r : List ℕ) → w * n + w ≤ length xs → EachRow w f n xs ys → length r ≡ w → r ≡ f n (row w ys n) → EachRow w f (n + 1) xs (put w ys n r)
-each_more w f n xs ys r h s full e =
+pub each-more : (w : ℕ) (f : ℕ → List ℕ → List ℕ) (n : ℕ) (xs ys r : List ℕ) → w * n + w ≤ length xs → EachRow w f n xs ys → length r ≡ w → r ≡ f n (row w ys n) → EachRow w f (n + 1) xs (put w ys n r)
+each-more w f n xs ys r h s full e =
     let in-range : w * n + w ≤ length ys = omega (arith, s.len) in
     record {
       len = put-length w ys n r in-range full ∙ s.len;
@@ -85,22 +89,22 @@ each_more w f n xs ys r h s full e =
           elim (cases_eq b n) [
             | inl same ↦
                 subst (λ (m : ℕ). row w (put w ys n r) m ≡ f m (row w xs m)) (sym same)
-                (row_same w ys n r in-range full ∙ e ∙ ap (f n) (each_next w f n xs ys s))
-            | inr away ↦ row_other w ys n r in-range full b away ∙ s.rows b (omega arith)
+                (row-same w ys n r in-range full ∙ e ∙ ap (f n) (each-next w f n xs ys s))
+            | inr away ↦ row-other w ys n r in-range full b away ∙ s.rows b (omega arith)
           ];
       rest = λ k l. rest-same w ys n r in-range full (n + 1) k (omega arith) l ∙ s.rest k (omega (arith, row-end w n));
     }
 
 -- one row anew, whichever it is: g is f but for that row
-pub each_again : (w : ℕ) (f g : ℕ → List ℕ → List ℕ) (n : ℕ) (xs ys : List ℕ) (b : ℕ) (r : List ℕ) → w * n ≤ length xs → EachRow w f n xs ys → b < n → length r ≡ w → r ≡ g b (row w xs b) → ((k : ℕ) → k ≢ b → f k (row w xs k) ≡ g k (row w xs k)) → EachRow w g n xs (put w ys b r)
-each_again w f g n xs ys b r h s lt full e others =
-    let in-range : w * b + w ≤ length ys = omega (arith, s.len, row_before w b n lt) in
+pub each-again : (w : ℕ) (f g : ℕ → List ℕ → List ℕ) (n : ℕ) (xs ys : List ℕ) (b : ℕ) (r : List ℕ) → w * n ≤ length xs → EachRow w f n xs ys → b < n → length r ≡ w → r ≡ g b (row w xs b) → ((k : ℕ) → k ≢ b → f k (row w xs k) ≡ g k (row w xs k)) → EachRow w g n xs (put w ys b r)
+each-again w f g n xs ys b r h s lt full e others =
+    let in-range : w * b + w ≤ length ys = omega (arith, s.len, row-before w b n lt) in
     record {
       len = put-length w ys b r in-range full ∙ s.len;
       rows = λ k l.
           elim (cases_eq k b) [
-            | inl same ↦ subst (λ (m : ℕ). row w (put w ys b r) m ≡ g m (row w xs m)) (sym same) (row_same w ys b r in-range full ∙ e)
-            | inr away ↦ row_other w ys b r in-range full k away ∙ s.rows k l ∙ others k away
+            | inl same ↦ subst (λ (m : ℕ). row w (put w ys b r) m ≡ g m (row w xs m)) (sym same) (row-same w ys b r in-range full ∙ e)
+            | inr away ↦ row-other w ys b r in-range full k away ∙ s.rows k l ∙ others k away
           ];
       rest = λ k l. rest-same w ys b r in-range full n k lt l ∙ s.rest k l;
     }

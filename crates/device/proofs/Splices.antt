@@ -1,5 +1,5 @@
 -- What `splice` leaves and where.
-use Rattle.std.proofs.Common.{◌≡◌, ℕ, zero, suc, ◌+◌, ◌-◌, ◌<◌, ◌≤◌, ◌⊎◌, List, [], ◌∷◌, ◌++◌, length, get_or, take, drop, set, sym, refl, ap, ◌∙◌, inl, inr, append_assoc, arith, lit<, length-append, length-drop, length-take}
+use Rattle.std.proofs.Common.{◌≡◌, ℕ, ◌+◌, ◌-◌, ◌<◌, ◌≤◌, ◌⊎◌, List, [], ◌∷◌, ◌++◌, length, get_or, take, drop, set, sym, refl, ap, ◌∙◌, inl, inr, append_assoc, arith, lit<, length-append, length-drop, length-take}
 use borrow.Rule.Slice.PartMut.{put_mid}
 use Rattle.std.proofs.lemmas.List.{take_more_set, drop-drop, drop-set-lt, get_or_append_left, get_or-append_right, get_or-take, get_or-drop, get_or_past, ext_get_or}
 use Rattle.std.proofs.lemmas.Bool.{cases_lt}
@@ -43,14 +43,14 @@ module _ (xs : List ℕ) (at : ℕ) (ys : List ℕ) (fits : at + length ys ≤ l
       get_or-take n _ k 0 i ∙ get_or-drop o (splice xs at ys) k 0 ∙ splice-outside (o + k) away ∙ sym (get_or-drop o xs k 0) ∙ sym (get_or-take n (drop o xs) k 0 i))
 
   -- all that was written
-  length_cut : length (take (length ys) (drop at (splice xs at ys))) ≡ length ys
-  length_cut = let n = length-splice in simp (length-take, length-drop, length-splice) (omega arith)
+  length-cut : length (take (length ys) (drop at (splice xs at ys))) ≡ length ys
+  length-cut = let n = length-splice in simp (length-take, length-drop, length-splice) (omega arith)
 
   pub cut-same : take (length ys) (drop at (splice xs at ys)) ≡ ys
   cut-same =
-      ext_get_or 0 _ _ length_cut
+      ext_get_or 0 _ _ length-cut
       (λ k h.
-      let i : k < length ys = omega (arith, length_cut) in
+      let i : k < length ys = omega (arith, length-cut) in
       get_or-take (length ys) _ k 0 i ∙ get_or-drop at (splice xs at ys) k 0 ∙ splice-inside k i)
 
 -- bytes, cut and joined
@@ -68,10 +68,6 @@ join-bytes xs ys hx hy k =
       | inr g ↦ rw (get_or-append_right xs ys (length xs) k 0 refl g) (hy (k - length xs))
     ]
 
-pub cons-bytes : (x : ℕ) (xs : List ℕ) → x < 256 → Bytes xs → Bytes (x ∷ xs)
-cons-bytes x xs hx h zero = hx
-cons-bytes x xs hx h (suc k) = h k
-
 pub rest-bytes : (xs : List ℕ) (n : ℕ) → Bytes xs → Bytes (drop n xs)
 rest-bytes xs n h k = rw (get_or-drop n xs k 0) (h (n + k))
 
@@ -81,8 +77,8 @@ splice-bytes xs at ys hx hy =
     (join-bytes ys (drop (at + length ys) xs) hy (rest-bytes xs (at + length ys) hx))
 
 -- a write to `xs[at..]` of ys, after one byte before it
-pub store_is : (xs ys : List ℕ) (at k y : ℕ) → at + 1 + length ys ≤ length xs → k ≡ length ys → put_mid (at + 1) k (set xs at y) ys ≡ splice xs at (y ∷ ys)
-store_is xs ys at k y h e =
+pub store-is : (xs ys : List ℕ) (at k y : ℕ) → at + 1 + length ys ≤ length xs → k ≡ length ys → put_mid (at + 1) k (set xs at y) ys ≡ splice xs at (y ∷ ys)
+store-is xs ys at k y h e =
     let front : take (at + 1) (set xs at y) ≡ take at xs ++ y ∷ [] = take_more_set xs at y (omega arith) in
     let back : drop k (drop (at + 1) (set xs at y)) ≡ drop (at + length (y ∷ ys)) xs =
     drop-drop k (at + 1) (set xs at y) ∙ drop-set-lt (at + 1 + k) xs at y (omega arith) ∙ ap (λ (m : ℕ). drop m xs) (omega arith) in

@@ -1,5 +1,6 @@
 -- Chains of calls, of any device and whatever its kind says.
-use Rattle.std.proofs.Common.{◌≡◌, ℕ, ◌+◌, ◌<◌, ◌&&◌, Bool, true, List, [], ◌∷◌, ◌++◌, length, take, sym, refl, ap, ◌∙◌, subst, arith}
+use Rattle.std.proofs.Common.{◌≡◌, ℕ, ◌+◌, ◌<◌, min, ◌&&◌, Bool, true, List, [], ◌∷◌, ◌++◌, length, take, sym, refl, ap, ◌∙◌, subst, inl, inr, arith}
+use Rattle.std.proofs.lemmas.Bool.{cases_lt}
 use Rattle.std.specs.List.{list_all}
 use Rattle.std.proofs.lemmas.Fn.{FoldsTo-push}
 use Rattle.std.proofs.lemmas.List.{take-append-le, take_all}
@@ -8,15 +9,8 @@ use Rattle.std.proofs.lemmas.List.Folds.{list_all-append}
 use Rattle.device.specs.Traces.{DeviceCall, reading, writing, syncing, restarting, Traced, is_reading, only_reads, ReadOnly, Fixed, ReadsKeep, ImageMade}
 
 module _ {D : Type 0} (makes : D → DeviceCall → D → Type 0) where
-  pub traced-none : (d : D) → Traced makes [] d d
-  traced-none d = refl
-
   pub traced-one : (call : DeviceCall) (d e : D) → makes d call e → Traced makes (call ∷ []) d e
   traced-one call d e m = (e, m, refl)
-
-  -- a call more at the front
-  pub traced-first : (call : DeviceCall) (calls : List DeviceCall) (d e f : D) → makes d call e → Traced makes calls e f → Traced makes (call ∷ calls) d f
-  traced-first call calls d e f m t = (e, m, t)
 
   -- a call more at the end
   pub traced-last : (calls : List DeviceCall) (call : DeviceCall) (d e f : D) → Traced makes calls d e → makes e call f → Traced makes (calls ++ call ∷ []) d f
@@ -39,6 +33,17 @@ module _ {D : Type 0} (makes : D → DeviceCall → D → Type 0) where
   pub traced-off : (xs ys : List DeviceCall) (left : ℕ) (d e : D) → left < length xs → Traced makes (take (left + 1) xs) d e → Traced makes (take (left + 1) (xs ++ ys)) d e
   traced-off xs ys left d e short t = rw (take-append-le (left + 1) xs ys (omega arith)) t
 
+  -- Such calls made one by one: the first n, where there was power for n of them or these are all.
+  pub traced-lasting : (calls : List DeviceCall) (left n : ℕ) (d e : D) → n ≡ min (left + 1) (length calls) → Traced makes (take n calls) d e → Traced makes (take (left + 1) calls) d e
+  traced-lasting calls left n d e lasts t =
+      elim (cases_lt (length calls) (left + 1)) [
+        | inl l ↦
+            let one : take n calls ≡ calls = take_all n calls (omega arith) in
+            let other : take (left + 1) calls ≡ calls = take_all (left + 1) calls (omega arith) in
+            subst (λ (cs : List DeviceCall). Traced makes cs d e) (one ∙ sym other) t
+        | inr g ↦ let same : n ≡ left + 1 = omega arith in subst (λ (k : ℕ). Traced makes (take k calls) d e) same t
+      ]
+
   module _ {S : Type 0} (seen : D → S) where
     -- a kind that leaves nothing open fixes what a chain leads to
     pub traced-fixed : Fixed seen makes → (calls : List DeviceCall) (d e d' e' : D) → Traced makes calls d d' → Traced makes calls e e' → seen d ≡ seen e → seen d' ≡ seen e'
@@ -57,9 +62,6 @@ pub only_reads-append : (xs ys : List DeviceCall) → only_reads xs ≡ true →
 only_reads-append xs ys one two = list_all-append is_reading xs ys ∙ ap (λ (b : Bool). b && list_all is_reading ys) one ∙ two
 
 module _ {D : Type 0} (makes : D → DeviceCall → D → Type 0) where
-  pub read-none : (d : D) → ReadOnly makes d d
-  read-none d = ([], refl, refl)
-
   pub read-one : {d e : D} (block room : ℕ) → makes d (reading block room) e → ReadOnly makes d e
   read-one {d} {e} block room m = (reading block room ∷ [], refl, traced-one makes (reading block room) d e m)
 

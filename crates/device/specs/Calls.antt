@@ -19,15 +19,15 @@ admitted size left b n =
     (cond (n == 256) (cond (left == 0) (Err (at_block NoCalls b)) (Ok tt))
     (Err (at_block NotABlock b)))
 
-abbrev pub write-answer : Medium → ℕ → ℕ → Answer
-write-answer m b n = admitted m.size m.left b n
+abbrev pub write_answer : Medium → ℕ → ℕ → Answer
+write_answer m b n = admitted m.size m.left b n
 
 -- the check of a sync
 abbrev pub spend_answer : ℕ → Answer
 spend_answer left = cond (left == 0) (Err (plain NoCalls)) (Ok tt)
 
-abbrev pub sync-answer : Medium → Answer
-sync-answer m = spend_answer m.left
+abbrev pub sync_answer : Medium → Answer
+sync_answer m = spend_answer m.left
 
 -- what an admitted read of block b answers, by what b holds
 abbrev pub found : ℕ → Option (List ℕ) → Answer
@@ -44,7 +44,7 @@ and_then (Ok x) next = next
 and_then (Err e) next = Err e
 
 abbrev pub read_answer : Medium → ℕ → ℕ → Answer
-read_answer m b n = and_then (write-answer m b n) (found b (m.holds b))
+read_answer m b n = and_then (write_answer m b n) (found b (m.holds b))
 
 -- nothing but the number of calls left may differ
 pub record SameBlocks (m m' : Medium) : Type 0 where
@@ -62,7 +62,7 @@ pub record Elsewhere (m m' : Medium) (b : ℕ) : Type 0 where
 pub record Read (m m' : Medium) (b : ℕ) (old new : List ℕ) (r : Answer) : Type 0 where
   pub answer : r ≡ read_answer m b (length old)
   pub buffer : new ≡ if_ok r (filled (m.holds b) old) old
-  pub left : m'.left ≡ if_ok (write-answer m b (length old)) (m.left - 1) m.left
+  pub left : m'.left ≡ if_ok (write_answer m b (length old)) (m.left - 1) m.left
   pub same : SameBlocks m m'
 
 -- What is known of b: it holds the bytes, loose or not, if the write was accepted; it is as it was if the write was
@@ -72,7 +72,7 @@ Written (Ok x) m m' b bytes = m'.holds b ≡ Some bytes
 Written (Err e) m m' b bytes = (e.refusal ≢ NoCalls) → SameBlocks m m'
 
 pub record Write (m m' : Medium) (b : ℕ) (bytes : List ℕ) (r : Answer) : Type 0 where
-  pub answer : r ≡ write-answer m b (length bytes)
+  pub answer : r ≡ write_answer m b (length bytes)
   pub left : m'.left ≡ if_ok r (m.left - 1) m.left
   pub elsewhere : Elsewhere m m' b
   pub here : Written r m m' b bytes
@@ -83,7 +83,7 @@ Synced (Ok x) m m' = (k : ℕ) → m'.loose k ≡ false
 Synced (Err e) m m' = (k : ℕ) → m'.loose k ≡ true → m.loose k ≡ true
 
 pub record Sync (m m' : Medium) (r : Answer) : Type 0 where
-  pub answer : r ≡ sync-answer m
+  pub answer : r ≡ sync_answer m
   pub left : m'.left ≡ if_ok r (m.left - 1) m.left
   pub size : m'.size ≡ m.size
   pub holds : (k : ℕ) → m'.holds k ≡ m.holds k

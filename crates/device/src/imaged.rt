@@ -1,9 +1,7 @@
 // A device over an image, in rows of one width: what every such device does alike.
-ghost use Rattle.answers.specs.declared.Refusal.TheVariants.{NoCalls};
-ghost use Rattle.answers.specs.Faults.{plain};
-ghost use Rattle.std.specs.Prelude.{◌≡◌, ℕ, ◌-◌, ◌^◌, ◌<◌, ◌≤◌, if◌then◌else◌, Bool, List, length, Some, None, Option, IsSome, IsNone, MatchOption, ◌↔◌, ◌==◌};
+ghost use Rattle.std.specs.Prelude.{◌≡◌, ℕ, ◌-◌, ◌^◌, ◌<◌, ◌≤◌, Bool, List, length, Some, None, Option, IsSome, IsNone, MatchOption, ◌↔◌};
 ghost use Rattle.device.specs.Bytes.{Bytes};
-ghost use Rattle.device.specs.Calls.{Read, Write, if_ok};
+ghost use Rattle.device.specs.Calls.{Read, Write, if_ok, spend_answer};
 ghost use Rattle.device.specs.Images.{blocks, held, imaged, put, row};
 
 use crate::BLOCK;
@@ -115,7 +113,7 @@ impl<const ROW: usize> Imaged<ROW> {
 
     // Spends a call, if one is left, on no block in particular.
     pub fn spend(&mut self) -> Result<(), Fault>
-        ensures answer { result ≡ (if self.old.left == 0 then Err (plain NoCalls) else Ok tt) }
+        ensures answer { result ≡ spend_answer self.old.left }
         ensures left { self.new.left ≡ if_ok result (self.old.left - 1) self.old.left }
         ensures image { self.new.image ≡ self.old.image }
     {

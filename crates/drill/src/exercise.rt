@@ -1,6 +1,6 @@
 // What any powered device must stand, shown from the interface alone.
 ghost use Rattle.std.specs.Prelude.{◌≡◌, ◌-◌, min};
-ghost use Rattle.device.specs.Calls.{SameBlocks, if_ok, write-answer};
+ghost use Rattle.device.specs.Calls.{SameBlocks, if_ok, write_answer};
 ghost use Rattle.drill.specs.Drills.{Armed, Drilled, looked};
 
 use answers::Fault;
@@ -55,7 +55,7 @@ pub fn drill<P: PoweredDevice>(
 pub fn look<D: Device>(device: &mut D, block: u32) -> Result<Ends, Fault>
     ensures ends { result ≡ looked (D.Device.medium device.old) block }
     ensures left { (D.Device.medium device.new).left
-        ≡ if_ok (write-answer (D.Device.medium device.old) block 256)
+        ≡ if_ok (write_answer (D.Device.medium device.old) block 256)
         ((D.Device.medium device.old).left - 1)
         (D.Device.medium device.old).left }
     ensures same { SameBlocks (D.Device.medium device.old) (D.Device.medium device.new) }

@@ -10,9 +10,10 @@ use Rattle.answers.specs.Faults.{at_block, in_entry}
 use Rattle.instruction.specs.declared.Instruction.{Instruction}
 use Rattle.rulebook.specs.Rules.{Rulebook, Standing, empty, answer, with_trade, effect, Runs, start, more}
 use Rattle.device.specs.Medium.{Medium, Bounded}
-use Rattle.journal.specs.Journal.{record_at, mark_at, Good, Found}
+use Rattle.journal.specs.Journal.{record_at, mark_at, Good}
+use Rattle.journal.proofs.Survives.{Found}
 use Rattle.journal.specs.Blocks.{mark_bytes, record_in, read_in, no_instruction}
-use Rattle.journal.proofs.Trips.{mark-is, is-mark}
+use Rattle.journal.proofs.Trips.{mark-is, mark-back}
 use Rattle.engine.specs.declared.engine.Recovered.{Recovered}
 use Rattle.engine.specs.Recovery.{with_calls, good, told, said, allowed, ruled, marked, entry_answer, turn, Scan, scan}
 use Rattle.engine.specs.Opening.{last_of}
@@ -41,8 +42,8 @@ pub mark-good : (m : Medium) (k : ℕ) → k < 2 ^ 32 → m.holds (mark_at k) �
 mark-good m k l e = ap (good k) e ∙ mark-is k l
 
 good-tested : (k : ℕ) (o : Option (List ℕ)) → ((bs : List ℕ) → o ≡ Some bs → (length bs ≡ 256) × ((i : ℕ) → get_or bs i 0 < 256)) → good k o ≡ true → o ≡ Some (mark_bytes k)
-good-tested k None whole e = absurd (cc)
-good-tested k (Some bs) whole e = let w = whole bs refl in ap Some (is-mark k bs w.0 w.1 e)
+good-tested k None whole e = absurd cc
+good-tested k (Some bs) whole e = let w = whole bs refl in ap Some (mark-back bs w.0 w.1 k e)
 
 -- one that is tested as good is so,
 pub mark-tested : (m : Medium) (k : ℕ) → Bounded m → good k (m.holds (mark_at k)) ≡ true → m.holds (mark_at k) ≡ Some (mark_bytes k)
@@ -74,13 +75,13 @@ module _ {ws : List Instruction} {t : Standing} where
         enough = λ h. ap Ok same;
         only = λ found e. (let is : record { count = k; last = last } ≡ found = cc in sym is ∙ same, sym es);
         fewer = l;
-        short = λ f e. absurd (cc);
+        short = λ f e. absurd cc;
       }
 
   ends-refused : (f : Fault) (n calls left : ℕ) (s : Standing) → f.refusal ≡ NoCalls → calls < 2 * n → left ≤ calls → Ends (record { outcome = Err f; left = left; standing = s }) n calls ws t
   ends-refused f n calls left s wants few l = record {
     enough = λ h. absurd (omega arith);
-    only = λ found e. absurd (cc);
+    only = λ found e. absurd cc;
     fewer = l;
     short = λ g e. let is : f ≡ g = cc in subst (λ x. x.refusal ≡ NoCalls) is wants;
   }
@@ -154,13 +155,7 @@ module _ (h : Rulebook) (pairs : ℕ) (few : pairs ≤ 32767) (m : Medium) (b : 
             ]
       ]
 
--- A recovery of a journal in which an opening finds ws, whose instructions lead to s, finds ws and leads there:
--- with so many calls,
+-- A recovery of a journal in which an opening finds ws, whose instructions lead to s, finds ws and leads there.
 pub calls-find : (h : Rulebook) (pairs : ℕ) (m : Medium) (ws : List Instruction) (s : Standing) → pairs ≤ 32767 → Bounded m → Found (written_by h pairs) m ws → Runs h ws s
     → (calls : ℕ) → Ends (scan h pairs (with_calls calls m) 0 empty None) pairs calls ws s
 calls-find h pairs m ws s few b f r calls = recovers h pairs few m b ws f s pairs 0 calls empty None (omega arith) (omega arith) (follows h r) refl
-
--- and with those that are left
-pub scan-finds : (h : Rulebook) (pairs : ℕ) (m : Medium) (ws : List Instruction) (s : Standing) → pairs ≤ 32767 → Bounded m → Found (written_by h pairs) m ws → Runs h ws s
-    → Ends (scan h pairs m 0 empty None) pairs m.left ws s
-scan-finds h pairs m ws s few b f r = calls-find h pairs m ws s few b f r m.left

@@ -1,5 +1,5 @@
 -- An instruction that the checks let pass.
-use Rattle.std.proofs.Common.{◌≡◌, ℕ, ◌<◌, Ok, Err, sym, refl, arith}
+use Rattle.std.proofs.Common.{◌≡◌, ◌<◌, Ok, Err, sym, refl, arith}
 use Rattle.answers.specs.declared.Fault.{Fault}
 use Rattle.instruction.specs.declared.Instruction.{Instruction}
 use Rattle.rulebook.specs.Rules.{Rulebook, answer, verdict}
@@ -14,8 +14,7 @@ use Rattle.engine.specs.Instructing.{ready, room_for, checked, Accepted, Instruc
 
 no-refusal : {e : Fault} {u : Unit {0}} → ◌≡◌ {A = Answer} (Err e) (Ok u) → ⊥
 no-refusal e =
-    let z : ◌≡◌ {A = ℕ} 0 1 = cc in
-    omega arith
+    cc
 
 -- what the checks of an instruction tell where they let it pass
 pub record LetPass (h : Rulebook) (x : Instruction) (v : View) : Type 0 where
@@ -31,8 +30,8 @@ ready-passes (Refused f) x next e = absurd (no-refusal (sym e))
 room-passes : (x : Instruction) (v : View) → room_for x v ≡ Ok tt → v.count < v.pairs
 room-passes x v e = grind arith
 
-pub let_pass : {h : Rulebook} {x : Instruction} {v : View} → Ok tt ≡ checked h x v → LetPass h x v
-let_pass {h} {x} {v} e =
+pub let-pass : {h : Rulebook} {x : Instruction} {v : View} → Ok tt ≡ checked h x v → LetPass h x v
+let-pass {h} {x} {v} e =
     let p = ready-passes v.mode x (and_then (verdict h v.standing x) (room_for x v)) e in
     let q = then-passed (verdict h v.standing x) (room_for x v) p.1 in
     record { mode = p.0; accepted = accepts x (answer h v.standing x) q.0; room = room-passes x v q.1 }
@@ -43,5 +42,5 @@ pub carried-out : {h : Rulebook} {x : Instruction} {v v' : View} → Ok tt ≡ c
 carried-out {h} {x} {v} {v'} pass written after =
     record {
       answer = rw (sym pass, sym written) refl;
-      after = rw (sym pass, sym written) (after (let_pass pass));
+      after = rw (sym pass, sym written) (after (let-pass pass));
     }

@@ -4,6 +4,5 @@ pub mod Opens
 pub mod Instructs
 pub mod Finds
 pub mod Openings
-pub mod Tracks
 pub mod Standings
 pub mod Keeping

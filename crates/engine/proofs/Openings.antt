@@ -11,10 +11,10 @@ use Rattle.rulebook.specs.Terms.{securities, cash}
 use Rattle.rulebook.specs.Rules.{Rulebook, Standing, empty, effect, Runs, more}
 use Rattle.device.specs.Medium.{Medium, Bounded}
 use Rattle.device.specs.Calls.{SameBlocks}
-use Rattle.journal.specs.Journal.{Layout, mark_at, Good, Says, Journal, Found}
+use Rattle.journal.specs.Journal.{Layout, mark_at, Good, Says, Journal}
 use Rattle.journal.specs.Blocks.{header_bytes, no_instruction}
-use Rattle.journal.proofs.Trips.{header_read}
-use Rattle.journal.proofs.Survives.{looking, found-one, idle-found}
+use Rattle.journal.proofs.Trips.{header-read}
+use Rattle.journal.proofs.Survives.{Found, looking, found-one, idle-found}
 use Rattle.engine.specs.declared.engine.Recovered.{Recovered}
 use Rattle.engine.specs.Recovery.{with_calls, drained, good, Scan, scan}
 use Rattle.engine.specs.View.{View}
@@ -122,7 +122,7 @@ module _ (h : Rulebook) (pairs : ℕ) where
       record {
         same = fewer-calls m z.left;
         fewer = fewer;
-        prompt = λ c. let a = sym e ∙ ends.enough (omega arith) in absurd (cc);
+        prompt = λ c. let a = sym e ∙ ends.enough (omega arith) in absurd cc;
         found = (ends.short f e, looking L m (with_calls z.left m) xs hand j (fewer-calls m z.left) fewer);
       }
 
@@ -149,7 +149,7 @@ module _ (h : Rulebook) (pairs : ℕ) where
     -- it is for these books, and the device has its blocks
     header-right : register < 256 → money < 256 → m.holds 0 ≡ Some (header_bytes (header_for h pairs)) → header_held register money m.size (m.holds 0) ≡ Ok pairs
     header-right r c e =
-        ap (header_held register money m.size) e ∙ ap (headed register money m.size) (header_read (header_for h pairs) r c some (omega arith))
+        ap (header_held register money m.size) e ∙ ap (headed register money m.size) (header-read (header_for h pairs) r c some (omega arith))
         ∙ rw (eq-eqb register register refl, eq-eqb money money refl) (cond-false (ltb m.size (1 + 2 * pairs)) _ _ (le-ltb m.size (1 + 2 * pairs) within))
 
     pub then-scanned : (m.left ≡ 0 → ⊥) → register < 256 → money < 256 → m.holds 0 ≡ Some (header_bytes (header_for h pairs))

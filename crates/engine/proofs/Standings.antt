@@ -13,9 +13,10 @@ use Rattle.ledger.proofs.Carried.{accepts}
 use Rattle.device.specs.Medium.{Medium, Bounded}
 use Rattle.device.specs.Calls.{SameBlocks}
 use Rattle.journal.specs.declared.header.Header.{Header}
-use Rattle.journal.specs.Journal.{record_at, mark_at, Found}
+use Rattle.journal.specs.Journal.{record_at, mark_at}
+use Rattle.journal.proofs.Survives.{Found}
 use Rattle.journal.specs.Blocks.{header_bytes, header_in, record_bytes, record_in, read_in, mark_bytes, no_instruction}
-use Rattle.journal.proofs.Trips.{record-read, read-record, read-header}
+use Rattle.journal.proofs.Trips.{record-read, record-back, read-header}
 use Rattle.engine.specs.declared.engine.Recovered.{Recovered}
 use Rattle.engine.specs.Recovery.{with_calls, drained, good, mark_answer, said, told, record_answer, allowed, ruled, marked, entry_answer, turn, Scan, scan}
 use Rattle.engine.specs.declared.engine.Mode.TheVariants.{Open}
@@ -29,30 +30,30 @@ use Rattle.engine.proofs.Openings.{fewer-calls, then-scanned}
 -- a check that was passed, where it refuses what fails its test,
 met : {X : Type 0} (b : Bool) (r : Result X Fault) (f : Fault) (x : X) → cond b r (Err f) ≡ Ok x → (b ≡ true) × (r ≡ Ok x)
 met true r f x e = (refl, e)
-met false r f x e = absurd (cc)
+met false r f x e = absurd cc
 
 -- and where it refuses what its test finds
 spared : {X : Type 0} (b : Bool) (r : Result X Fault) (f : Fault) (x : X) → cond b (Err f) r ≡ Ok x → (b ≡ false) × (r ≡ Ok x)
-spared true r f x e = absurd (cc)
+spared true r f x e = absurd cc
 spared false r f x e = (refl, e)
 
 -- what the reading of a record and the rules' answer tell
 
 told-so : (k : ℕ) (r : Result Instruction Refusal) (x : Instruction) → told k r ≡ Ok x → r ≡ Ok x
 told-so k (Ok y) x e = cc
-told-so k (Err f) x e = absurd (cc)
+told-so k (Err f) x e = absurd cc
 
 said-from : (k : ℕ) (o : Option (List ℕ)) (x : Instruction) → said k o ≡ Ok x → (bs : List ℕ) × (o ≡ Some bs) × (record_in k bs ≡ Ok x)
-said-from k None x e = absurd (cc)
+said-from k None x e = absurd cc
 said-from k (Some bs) x e = (bs, refl, told-so k (record_in k bs) x e)
 
 allowed-so : (k : ℕ) (x y : Instruction) (r : Result (Unit {0}) Fault) → allowed k x r ≡ Ok (Some y) → (x ≡ y) × (r ≡ Ok tt)
 allowed-so k x y (Ok u) e = (let o : ◌≡◌ {A = Option Instruction} (Some x) (Some y) = cc in cc, refl)
-allowed-so k x y (Err f) e = absurd (cc)
+allowed-so k x y (Err f) e = absurd cc
 
 allowed-ends : (k : ℕ) (x : Instruction) (r : Result (Unit {0}) Fault) → allowed k x r ≡ Ok None → ⊥
-allowed-ends k x (Ok u) e = let o : ◌≡◌ {A = Option Instruction} (Some x) None = cc in absurd (cc)
-allowed-ends k x (Err f) e = absurd (cc)
+allowed-ends k x (Ok u) e = let o : ◌≡◌ {A = Option Instruction} (Some x) None = cc in absurd cc
+allowed-ends k x (Err f) e = absurd cc
 
 -- the device has the header and the blocks of a journal for these books, of so many pairs
 record Heads (h : Rulebook) (m : Medium) (pairs : ℕ) : Type 0 where
@@ -68,7 +69,7 @@ module _ (h : Rulebook) (m : Medium) (b : Bounded m) where
   money = (h.kind cash).code
 
   heads-read : (pairs : ℕ) (bs : List ℕ) (r : Result Header Refusal) → m.holds 0 ≡ Some bs → header_in bs ≡ r → headed register money m.size r ≡ Ok pairs → Heads h m pairs
-  heads-read pairs bs (Err f) holds is e = absurd (cc)
+  heads-read pairs bs (Err f) holds is e = absurd cc
   heads-read pairs bs (Ok head) holds is e =
       let p = met (eqb head.register register && eqb head.cash money) _ _ pairs e in
       let q = and_parts (eqb head.register register) (eqb head.cash money) p.0 in
@@ -86,7 +87,7 @@ module _ (h : Rulebook) (m : Medium) (b : Bounded m) where
       }
 
   heads-held : (pairs : ℕ) (o : Option (List ℕ)) → m.holds 0 ≡ o → header_held register money m.size o ≡ Ok pairs → Heads h m pairs
-  heads-held pairs None holds e = absurd (cc)
+  heads-held pairs None holds e = absurd cc
   heads-held pairs (Some bs) holds e = heads-read pairs bs (header_in bs) holds refl e
 
   -- a header that passed its checks
@@ -101,7 +102,7 @@ module _ (h : Rulebook) (m : Medium) (b : Bounded m) where
     marks : (j : ℕ) → j < k → m.holds (mark_at j) ≡ Some (mark_bytes j)
     records : (j : ℕ) → j < k → m.holds (record_at j) ≡ Some (record_bytes j (entry_in m j))
     list : Runs h (listed m k) s
-    is_last : last ≡ last_of (listed m k)
+    is-last : last ≡ last_of (listed m k)
 
   none-read : Prefix 0 empty None
   unfolding listed
@@ -109,7 +110,7 @@ module _ (h : Rulebook) (m : Medium) (b : Bounded m) where
     marks = λ j l. absurd (omega arith);
     records = λ j l. absurd (omega arith);
     list = start;
-    is_last = refl;
+    is-last = refl;
   }
 
   -- entry k has been read and says x, which the rules accept
@@ -133,7 +134,7 @@ module _ (h : Rulebook) (m : Medium) (b : Bounded m) where
             ⊎_elim (λ (i : j ≡ k). subst (λ n. m.holds (record_at n) ≡ Some (record_bytes n (entry_in m n))) (sym i) (e.entry ∙ ap (λ y. Some (record_bytes k y)) (sym e.says)))
             (λ ne. p.records j (omega arith)) (cases_eq j k);
         list = subst (λ ys. Runs h ys (effect s x)) (sym list) (more x p.list e.accepted);
-        is_last = sym (ap last_of list ∙ last-more (listed m k) x);
+        is-last = sym (ap last_of list ∙ last-more (listed m k) x);
       }
 
   -- what an entry that was read says
@@ -142,21 +143,21 @@ module _ (h : Rulebook) (m : Medium) (b : Bounded m) where
     ruled-so x (Ok y) e =
         let p = allowed-so k y x (verdict h s y) e in
         (ap Ok p.0, subst (λ z. answer h s z ≡ Ok tt) p.0 (accepts y (answer h s y) p.1))
-    ruled-so x (Err f) e = absurd (cc)
+    ruled-so x (Err f) e = absurd cc
 
     ruled-ends : (r : Result Instruction Fault) → ruled h s k r ≡ Ok None → ⊥
     ruled-ends (Ok y) e = allowed-ends k y (verdict h s y) e
-    ruled-ends (Err f) e = absurd (cc)
+    ruled-ends (Err f) e = absurd cc
 
     marked-so : (on : Medium) (x : Instruction) (r : Result Bool Fault) → marked h on s k r ≡ Ok (Some x) → (r ≡ Ok true) × (record_answer (drained 1 on) k ≡ Ok x) × (answer h s x ≡ Ok tt)
     marked-so on x (Ok true) e = let p = ruled-so x (record_answer (drained 1 on) k) e in (refl, p.0, p.1)
-    marked-so on x (Ok false) e = let o : ◌≡◌ {A = Option Instruction} None (Some x) = cc in absurd (cc)
-    marked-so on x (Err f) e = absurd (cc)
+    marked-so on x (Ok false) e = let o : ◌≡◌ {A = Option Instruction} None (Some x) = cc in absurd cc
+    marked-so on x (Err f) e = absurd cc
 
     marked-ends : (on : Medium) (r : Result Bool Fault) → marked h on s k r ≡ Ok None → r ≡ Ok false
     marked-ends on (Ok true) e = absurd (ruled-ends (record_answer (drained 1 on) k) e)
     marked-ends on (Ok false) e = refl
-    marked-ends on (Err f) e = absurd (cc)
+    marked-ends on (Err f) e = absurd cc
 
     -- the mark's test, from its answer
     tested : (on : Medium) (t : Bool) → mark_answer on k ≡ Ok t → good k (on.holds (mark_at k)) ≡ t
@@ -171,7 +172,7 @@ module _ (h : Rulebook) (m : Medium) (b : Bounded m) where
         let p = marked-so on x (mark_answer on k) e in
         let q = spared (eqb (drained 1 on).left 0) (said k (m.holds (record_at k))) _ x p.1 in
         let r = said-from k (m.holds (record_at k)) x q.1 in
-        let w : record_bytes k x ≡ r.0 = read-record k r.0 x (b.whole (record_at k) r.0 r.1) (b.bytes (record_at k) r.0 r.1) r.2 in
+        let w : record_bytes k x ≡ r.0 = record-back r.0 (b.whole (record_at k) r.0 r.1) (b.bytes (record_at k) r.0 r.1) k x r.2 in
         record {
           mark = mark-tested m k b (tested on true p.0);
           entry = r.1 ∙ ap Some (sym w);
@@ -207,7 +208,7 @@ module _ (h : Rulebook) (m : Medium) (b : Bounded m) where
         → (turn r (with_calls calls m) k s last (onward n k calls s)).outcome ≡ Ok found → Reads pairs (turn r (with_calls calls m) k s last (onward n k calls s)).standing found
     turn-reads n k calls s last found l p after (Ok None) is e = ends-so pairs k s last found p (omega arith) (λ r. entry-ends k s calls (omega arith) is) e
     turn-reads n k calls s last found l p after (Ok (Some x)) is e = after x (entry-read k s calls x is) e
-    turn-reads n k calls s last found l p after (Err f) is e = absurd (cc)
+    turn-reads n k calls s last found l p after (Err f) is e = absurd cc
 
     scan-reads : (n k calls : ℕ) (s : Standing) (last : Option Instruction) (found : Recovered) → n + k ≡ pairs → Prefix k s last
         → (scan h n (with_calls calls m) k s last).outcome ≡ Ok found → Reads pairs (scan h n (with_calls calls m) k s last).standing found
@@ -232,7 +233,7 @@ module _ (h : Rulebook) (m : Medium) (b : Bounded m) where
         records = r.entries.records;
         stop = r.stop;
         list = r.entries.list;
-        last = r.entries.is_last;
+        last = r.entries.is-last;
         count = refl;
       }
   scanned-well pairs z (Err f) w reads = record { standing = refl; pairs = refl; found = refl; last = refl; count = refl }
@@ -277,7 +278,7 @@ record-says : (k : ℕ) (x : Instruction) (r : Result Instruction Refusal) → k
 record-says k x (Ok y) l is e = ap Some (sym e)
 record-says k x (Err f) l is e =
     let o : ◌≡◌ {A = Result Instruction Refusal} (Err f) (Ok no_instruction) = sym is ∙ ap (λ y. record_in k (record_bytes k y)) e ∙ record-read k no_instruction l fit-none in
-    absurd (cc)
+    absurd cc
 
 -- what an opening may find on a device, it does
 module _ (h : Rulebook) (m : Medium) (w : View) (f : FoundOn h m w) where

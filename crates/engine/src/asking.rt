@@ -50,7 +50,6 @@ impl<D: Device, R: Book, C: Book> Engine<D, R, C> {
         self.ledger.money(account, currency)
     }
 
-    // The state of a trade.
     pub fn trade_state(&self, number: u32) -> Result<State, Refusal>
         ensures { let v = view D.medium self.now in result ≡ if_answering v.mode (state_question v.standing.state number) }
     {

@@ -91,7 +91,7 @@ fn replay<D: Device, R: Book, C: Book>(
 {
     let mut done: u32 = 0;
     let mut last = None;
-    // A loop whose value is the count found, as this repository has it: it breaks with it at the first mark not good.
+    // The loop breaks with the count found, at the first mark not good or past the last pair.
     let count = loop {
         if done >= pairs {
             break done;

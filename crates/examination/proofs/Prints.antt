@@ -44,7 +44,7 @@ pub prints-refusal : (d : Simulated) (script : List ℕ) (f : Fault) (stop : Sto
 prints-refusal d script f stop text n es s et =
     elim (subst (λ z. Stopped 63 (meaning d) script z) es s) [
       | inl p ↦ let e : f.refusal ≡ InputTooLong = cc (p.1) in inr (p.0, et ∙ ap refused_text e)
-      | inr p ↦ let e : Ok tt ≡ Err f = sym (formats d n) ∙ p.1 in absurd (let z : ◌≡◌ {A = ℕ} 0 1 = cc in omega arith)
+      | inr p ↦ let e : Ok tt ≡ Err f = sym (formats d n) ∙ p.1 in absurd cc
     ]
 
 -- an image and the calls left are all of a simulated device that can be told

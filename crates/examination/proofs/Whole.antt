@@ -64,10 +64,10 @@ owed-opened (Refused f) l s = s
 owed-well : (m : Mode) (l : Option Contents) → opening_answer m ≡ Ok tt → Owed m l
 owed-well Open l e = tt
 owed-well (Down x) l e = tt
-owed-well (Refused f) l e = absurd (let z : ◌≡◌ {A = ℕ} 0 1 = cc in omega arith)
+owed-well (Refused f) l e = absurd cc
 
 presented-some : (m : Mode) (n : ℕ) (last : Option Instruction) (l : Option Contents) → is_some l ≡ true → is_some (slip_answer m n last l) ≡ true
-presented-some m n last None s = absurd (let z : ◌≡◌ {A = ℕ} 0 1 = cc in omega arith)
+presented-some m n last None s = absurd cc
 presented-some Open n last (Some c) s = refl
 presented-some (Down x) n last (Some c) s = refl
 presented-some (Refused f) n last (Some c) s = refl

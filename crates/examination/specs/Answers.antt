@@ -1,19 +1,31 @@
 -- What the lines of a script are answered, from the replies to their calls. Assumes nothing.
 use Rattle.std.specs.Prelude.{◌≡◌, ◌-◌, true, List, [], ◌∷◌, length, drop, Ok, Err, Result, is_some, slice_index_or}
 use Rattle.answers.specs.declared.Refusal.{Refusal}
+use Rattle.answers.specs.declared.Fault.{Fault}
 use Rattle.script.specs.declared.Request.{Request}
 use Rattle.depository.specs.declared.calls.Reply.{Reply}
 use Rattle.depository.specs.declared.calls.Reply.TheVariants.{Done, Instructed, Opened, Told, Misfit}
+use Rattle.depository.specs.declared.calls.Opened.{Opened as OpenReply}
 use Rattle.depository.specs.declared.calls.Fact.TheVariants.{Holding, State, Entries}
+use Rattle.examination.specs.declared.answer.Reopening.{Reopening}
 use Rattle.examination.specs.declared.answer.Answer.{Answer}
-use Rattle.examination.specs.declared.answer.Answer.TheVariants.{Done as Accepted, Amounts, Reopened, Refused, Unasked}
+use Rattle.examination.specs.declared.answer.Answer.TheVariants.{Accepted, Amounts, Reopened, Refused, Unasked}
 use Rattle.examination.specs.Orders.{orders_of}
+
+-- what a key tells of a fault
+abbrev pub refused_by : Result (Unit {0}) Fault → Result (Unit {0}) Refusal
+refused_by (Ok u) = Ok u
+refused_by (Err f) = Err f.refusal
+
+-- what a key tells of an opening
+abbrev pub reopening_of : OpenReply → Reopening
+reopening_of o = record { answer = refused_by o.answer; found = o.found; presented = o.presented }
 
 abbrev pub answer_of : Reply → Answer
 answer_of Done = Accepted
 answer_of (Instructed (Ok u)) = Accepted
 answer_of (Instructed (Err f)) = Refused f.refusal
-answer_of (Opened o) = Reopened o
+answer_of (Opened o) = Reopened (reopening_of o)
 answer_of (Told (Ok (Holding f))) = Amounts f
 answer_of (Told (Ok (State s))) = Unasked
 answer_of (Told (Ok (Entries n))) = Unasked

@@ -1,19 +1,40 @@
 // What one line is answered.
 ghost use Rattle.std.specs.Prelude.{◌≡◌};
-ghost use Rattle.examination.specs.Answers.{answer_of};
+ghost use Rattle.examination.specs.Answers.{answer_of, reopening_of};
 
 use answers::Refusal;
 use book::Holding;
 use depository::{Fact, Opened, Reply};
+use engine::Verdict;
+
+// What an opening and the last slip answered, of which a key tells no fault but its number.
+#[derive(Clone, Copy)]
+pub struct Reopening {
+    pub answer: Result<(), Refusal>,
+    pub found: u32,
+    pub presented: Option<Result<Verdict, Refusal>>,
+}
+
+impl From<Opened> for Reopening {
+    ghost from_gives = { λ opened reopening. reopening ≡ reopening_of opened };
+
+    fn from(opened: Opened) -> Reopening {
+        Reopening {
+            answer: opened.answer.map_err(|fault| fault.refusal),
+            found: opened.found,
+            presented: opened.presented,
+        }
+    }
+}
 
 #[derive(Clone, Copy)]
 pub enum Answer {
     // an instruction was accepted
-    Done,
+    Accepted,
     // what a question asks for
     Amounts(Holding),
-    // after a cut, what the opening and the last slip answered
-    Reopened(Opened),
+    // after a cut
+    Reopened(Reopening),
     Refused(Refusal),
     // what no line asks for: a call that did not fit, or a fact of another kind
     Unasked,
@@ -24,9 +45,9 @@ impl From<Reply> for Answer {
 
     fn from(reply: Reply) -> Answer {
         match reply {
-            Reply::Done | Reply::Instructed(Ok(())) => Answer::Done,
+            Reply::Done | Reply::Instructed(Ok(())) => Answer::Accepted,
             Reply::Instructed(Err(fault)) => Answer::Refused(fault.refusal),
-            Reply::Opened(opened) => Answer::Reopened(opened),
+            Reply::Opened(opened) => Answer::Reopened(opened.into()),
             Reply::Told(Ok(Fact::Holding(held))) => Answer::Amounts(held),
             Reply::Told(Ok(_)) | Reply::Misfit => Answer::Unasked,
             Reply::Told(Err(refusal)) => Answer::Refused(refusal),

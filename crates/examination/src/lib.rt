@@ -11,7 +11,7 @@ mod lines;
 mod program;
 pub mod text;
 
-pub use answer::Answer;
+pub use answer::{Answer, Reopening};
 use answers::Refusal;
 use book::Book;
 pub use depository::Stop;

@@ -100,7 +100,7 @@ pub(crate) fn answers_for(
 ) -> Result<Vec<Answer>, AllocError>
     ensures { IfOk result (λ v. v.items ≡ answers_for requests.now (drop 1 replies.now)) }
 {
-    let mut answers = Vec::new(heap);
+    let mut answers = Vec::with_capacity(heap, requests.len())?;
     let mut rest = past(replies, 1);
     for request in requests {
         answers.push(line_answer(request, rest))?;

@@ -1,5 +1,7 @@
 // The examination that the program holds: the device and the books of each script.
 ghost use Rattle.std.specs.Prelude.{◌≡◌, IfOk, string_bytes};
+ghost use Rattle.book.specs.Holdings.{nothing};
+ghost use Rattle.balances.specs.Meaning.{meaning};
 ghost use Rattle.examination.specs.Program.{zero_bytes, IsNew, Printed, OneKey};
 
 use crate::text::{key_text, refusal_text};
@@ -29,6 +31,13 @@ fn new_device(heap: Global) -> Result<Simulated, AllocError>
     Ok(Simulated::new(image, CALLS))
 }
 
+// In a box, since a depository moves its books with each cut.
+fn new_book(heap: Global) -> Result<Box<Balances>, AllocError>
+    ensures { IfOk result (λ b. meaning b.value ≡ nothing) }
+{
+    Ok(Box::new(heap, Balances::new())?)
+}
+
 // Answers a script on a new device and with new books, and gives what is to be printed: the whole key, or line 0 where the script
 // is too long. The format of this device is never refused.
 #[tactic(auto, using(crate::proofs::Prints::one_key))]
@@ -37,14 +46,9 @@ pub fn examine(heap: Global, script: &[u8]) -> Result<String, AllocError>
     ensures one { OneKey }
 {
     let device = new_device(heap)?;
-    match answer_script(
-        heap,
-        device,
-        PAIRS,
-        Balances::new(),
-        Balances::new(),
-        script,
-    ) {
+    let register = new_book(heap)?;
+    let cash = new_book(heap)?;
+    match answer_script(heap, device, PAIRS, register, cash, script) {
         Ok(answers) => key_text(heap, answers.as_slice()),
         Err(Stop::Refused(fault)) => refusal_text(heap, fault.refusal),
         Err(Stop::NoMemory(error)) => Err(error),

@@ -1,19 +1,12 @@
 // The key as text. Functions, and no `Display`, since a contract says which bytes each text is.
 ghost use Rattle.std.specs.Prelude.{◌≡◌, IfOk, string_bytes};
-ghost use Rattle.examination.specs.Texts.{opening_number, presented_number, line_text, key_text, refused_text};
+ghost use Rattle.examination.specs.Texts.{presented_number, line_text, key_text, refused_text};
 ghost use Rattle.examination.specs.declared.answer.Answer.TheVariants.{Reopened};
 
-use crate::Answer;
-use answers::{Fault, Refusal, answer_number};
-use depository::Opened;
+use crate::answer::{Answer, Reopening};
+use answers::{Refusal, answer_number};
 use engine::Verdict;
 use std::alloc::{AllocError, Global};
-
-fn opening_number(answer: Result<(), Fault>) -> u8
-    ensures { result ≡ opening_number answer }
-{
-    answer_number(answer.map_err(|fault| fault.refusal))
-}
 
 fn presented_number(presented: Result<Verdict, Refusal>) -> u8
     ensures { result ≡ presented_number presented }
@@ -29,13 +22,13 @@ pub fn line_text(heap: Global, number: usize, answer: &Answer) -> Result<String,
     ensures { IfOk result (λ t. string_bytes t ≡ line_text number answer.now) }
 {
     match answer {
-        Answer::Done => format!(in heap; "{number} 0\n"),
+        Answer::Accepted => format!(in heap; "{number} 0\n"),
         Answer::Amounts(held) => {
             let free = held.free;
             let blocked = held.blocked;
             format!(in heap; "{number} 0 {free} {blocked}\n")
         }
-        Answer::Reopened(opened) => reopened_text(heap, number, opened),
+        Answer::Reopened(reopening) => reopened_text(heap, number, reopening),
         Answer::Refused(refusal) => {
             let refusal = refusal.number();
             format!(in heap; "{number} {refusal}\n")
@@ -44,12 +37,12 @@ pub fn line_text(heap: Global, number: usize, answer: &Answer) -> Result<String,
     }
 }
 
-fn reopened_text(heap: Global, number: usize, opened: &Opened) -> Result<String, AllocError>
-    ensures { IfOk result (λ t. string_bytes t ≡ line_text number (Reopened opened.now)) }
+fn reopened_text(heap: Global, number: usize, reopening: &Reopening) -> Result<String, AllocError>
+    ensures { IfOk result (λ t. string_bytes t ≡ line_text number (Reopened reopening.now)) }
 {
-    let answer = opening_number(opened.answer);
-    let found = opened.found;
-    match opened.presented {
+    let answer = answer_number(reopening.answer);
+    let found = reopening.found;
+    match reopening.presented {
         Some(presented) => {
             let presented = presented_number(presented);
             format!(in heap; "{number} {answer} {found} {presented}\n")

@@ -11,6 +11,10 @@ use Rattle.instruction.specs.Kinds.{code_of}
 abbrev pub of_kind : Kind → Instruction
 of_kind k = record { kind = code_of k; account = 0; counterparty = 0; item = 0; currency = 0; trade = 0; quantity = 0; amount = 0 }
 
+-- and one that names a trade and nothing else
+abbrev pub on_trade : Kind → ℕ → Instruction
+on_trade k t = record { kind = code_of k; account = 0; counterparty = 0; item = 0; currency = 0; trade = t; quantity = 0; amount = 0 }
+
 -- byte 0 the kind, byte 1 zero, then the account, the counterparty, the item and the currency in two bytes each,
 -- bytes 10 and 11 zero, the trade in four bytes, the quantity and the amount in eight each
 abbrev pub bytes_of : Instruction → List ℕ

@@ -3,7 +3,7 @@
 
 ghost use Rattle.std.specs.Prelude.{◌≡◌, ◌+◌, ◌≤◌, length, Ok};
 ghost use Rattle.instruction.specs.Kinds.{code_of, Decodes, KindsAndCodes};
-ghost use Rattle.instruction.specs.Layout.{of_kind, bytes_of, instruction_in, field, Reads};
+ghost use Rattle.instruction.specs.Layout.{of_kind, on_trade, bytes_of, instruction_in, field, Reads};
 
 use answers::Refusal;
 use little_endian::LittleEndian;
@@ -74,6 +74,16 @@ impl Instruction {
         Instruction {
             kind: kind.into(),
             ..Instruction::default()
+        }
+    }
+
+    // An instruction of the kind that names a trade, with 0 in each other field.
+    pub fn on_trade(kind: Kind, trade: u32) -> Instruction
+        ensures { result ≡ on_trade kind trade }
+    {
+        Instruction {
+            trade,
+            ..Instruction::of_kind(kind)
         }
     }
 

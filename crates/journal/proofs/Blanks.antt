@@ -45,8 +45,8 @@ module _ {k : ℕ} {m m₁ m₂ : Medium} (s : Blanking k m m₁) where
       }
 
   -- no call was left for the mark of entry k
-  pub cut_short : {pairs : ℕ} {e : Fault} → k < pairs → 1 + 2 * pairs ≤ m.size → Write m₁ m₂ (mark_at k) zeros (Err e) → Blanked pairs m m₂
-  cut_short {pairs} {e} l fits w =
+  pub cut-short : {pairs : ℕ} {e : Fault} → k < pairs → 1 + 2 * pairs ≤ m.size → Write m₁ m₂ (mark_at k) zeros (Err e) → Blanked pairs m m₂
+  cut-short {pairs} {e} l fits w =
       let r = write-refused w (omega (arith, s.size)) refl in
       let none = r.1 in
       record {
@@ -61,9 +61,9 @@ module _ {k : ℕ} {m m₁ m₂ : Medium} (s : Blanking k m m₁) where
         firm = λ h. absurd (omega (arith, s.left, none));
       }
 
-not_loose : (a b : Bool) → (a ≡ true → b ≡ true) → b ≡ false → a ≡ false
-not_loose false b h f = refl
-not_loose true b h f = sym (h refl) ∙ f
+not-loose : (a b : Bool) → (a ≡ true → b ≡ true) → b ≡ false → a ≡ false
+not-loose false b h f = refl
+not-loose true b h f = sym (h refl) ∙ f
 
 module _ {pairs : ℕ} {m m₁ m₂ : Medium} (s : Blanking pairs m m₁) where
   -- all marks are zeros, and no call was left for the sync
@@ -74,7 +74,7 @@ module _ {pairs : ℕ} {m m₁ m₂ : Medium} (s : Blanking pairs m m₁) where
         size = w.size ∙ s.size;
         left = omega (arith, w.left, none, s.left);
         holds = λ b u. w.holds b ∙ s.holds b u;
-        loose = λ b u h. not_loose (m₂.loose b) (m₁.loose b) (w.loose b) (s.loose b u ∙ h);
+        loose = λ b u h. not-loose (m₂.loose b) (m₁.loose b) (w.loose b) (s.loose b u ∙ h);
         written = λ j h i. w.holds (mark_at j) ∙ s.written j h;
         unreached = λ j h i. absurd (omega (arith, s.left));
         unreached-firm = λ j h i f. absurd (omega (arith, s.left));

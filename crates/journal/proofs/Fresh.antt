@@ -83,13 +83,13 @@ module _ (header : List ℕ) (pairs : ℕ) {m₀ m₁ : Medium} (one : Kept 0 ze
     pub all-steps : pairs + 3 ≤ m₀.left → {m₃ : Medium} → Kept 0 header m₂ m₃ → Formatted header pairs m₀ m₃
     all-steps l three = stepwise header pairs one two three (λ h. absurd (omega arith)) (λ h. absurd (omega arith))
 
-some_is : {x y : List ℕ} → Some x ≡ Some y → x ≡ y
-some_is e = cc
+some-is : {x y : List ℕ} → Some x ≡ Some y → x ≡ y
+some-is e = cc
 
 pub fresh-journal : (h : Header) (m m' : Medium) → h.pairs < 32768 → h.pairs + 4 < m.left → Formatted (header_bytes h) h.pairs m m' → Journal (layout h) m' [] None
 fresh-journal h m m' few calls f =
     let blank : (k : ℕ) → k < h.pairs → Blank (layout h) m' k =
-    λ k l. (λ good. zeros-no-mark k (omega arith) (some_is (sym (f.unmarked k l (omega arith)) ∙ good)), f.firm calls (mark_at k)) in
+    λ k l. (λ good. zeros-no-mark k (omega arith) (some-is (sym (f.unmarked k l (omega arith)) ∙ good)), f.firm calls (mark_at k)) in
     record {
       head = (f.headed (omega arith), f.firm calls 0);
       room = omega arith;

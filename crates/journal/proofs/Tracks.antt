@@ -9,13 +9,13 @@ use Rattle.journal.specs.Blocks.{zeros}
 use Rattle.journal.specs.Journal.{mark_at}
 use Rattle.journal.specs.Format.{no_room, mark_writes, format_calls}
 
-pub more_marks : (n : ℕ) → mark_writes (n + 1) ≡ mark_writes n ++ (writing (mark_at n) zeros ∷ [])
+pub more-marks : (n : ℕ) → mark_writes (n + 1) ≡ mark_writes n ++ (writing (mark_at n) zeros ∷ [])
 unfolding mark_writes
-more_marks n = ap mark_writes (add-one n)
+more-marks n = ap mark_writes (add-one n)
 
-pub no_marks : mark_writes 0 ≡ []
+pub no-marks : mark_writes 0 ≡ []
 unfolding mark_writes
-no_marks = refl
+no-marks = refl
 
 pub mark-count : (n : ℕ) → length (mark_writes n) ≡ n
 unfolding mark_writes
@@ -26,7 +26,7 @@ mark-count (suc n) = length-append (mark_writes n) (writing (mark_at n) zeros �
 pub first-marks : (n m : ℕ) (zs : List DeviceCall) → n ≤ m → take n (mark_writes m ++ zs) ≡ mark_writes n
 first-marks n zero zs l =
     let e : n ≡ 0 = omega arith in
-    ap (λ (k : ℕ). take k (mark_writes 0 ++ zs)) e ∙ sym no_marks ∙ ap mark_writes (sym e)
+    ap (λ (k : ℕ). take k (mark_writes 0 ++ zs)) e ∙ sym no-marks ∙ ap mark_writes (sym e)
 first-marks n (suc m) zs l =
     elim (cases_eq n (suc m)) [
       | inl e ↦
@@ -34,14 +34,14 @@ first-marks n (suc m) zs l =
           ap (λ (k : ℕ). take k (mark_writes (suc m) ++ zs)) count ∙ take-append_seam (mark_writes (suc m)) zs ∙ ap mark_writes (sym e)
       | inr d ↦
           let last = writing (mark_at m) zeros ∷ [] in
-          ap (λ (ws : List DeviceCall). take n (ws ++ zs)) (ap mark_writes (sym (add-one m)) ∙ more_marks m)
+          ap (λ (ws : List DeviceCall). take n (ws ++ zs)) (ap mark_writes (sym (add-one m)) ∙ more-marks m)
           ∙ ap (take n) (append_assoc (mark_writes m) last zs) ∙ first-marks n m (last ++ zs) (omega arith)
     ]
 
 module _ {D : Type 0} (makes : D → DeviceCall → D → Type 0) (d₀ d₁ d₂ : D) where
   -- the mark of one entry more
   pub mark-more : (k : ℕ) → Traced makes (mark_writes k) d₀ d₁ → makes d₁ (writing (mark_at k) zeros) d₂ → Traced makes (mark_writes (k + 1)) d₀ d₂
-  mark-more k t m = rw (more_marks k) (traced-last makes (mark_writes k) (writing (mark_at k) zeros) d₀ d₁ d₂ t m)
+  mark-more k t m = rw (more-marks k) (traced-last makes (mark_writes k) (writing (mark_at k) zeros) d₀ d₁ d₂ t m)
 
   -- no call was left for the mark of entry k
   pub marks-cut : (k pairs left : ℕ) → left ≡ k → k < pairs → Traced makes (mark_writes k) d₀ d₁ → makes d₁ (writing (mark_at k) zeros) d₂ → Traced makes (take (left + 1) (mark_writes pairs ++ (syncing ∷ []))) d₀ d₂

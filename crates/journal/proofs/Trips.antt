@@ -1,26 +1,18 @@
 -- Blocks are read back as they were written, and no mark is blank. Assumes nothing.
-use Rattle.std.proofs.Common.{◌≡◌, ℕ, zero, suc, ◌+◌, ◌-◌, ◌%◌, ◌^◌, ◌<◌, ◌≤◌, Bool, true, false, cond, ◌&&◌, eqb, ltb, List, [], ◌∷◌, ◌++◌, length, get_or, take, drop, replicate, Ok, Err, Result, sym, refl, ap, ◌∙◌, subst, inl, inr, arith, lit<, length-drop, length-take, drop-cons}
-use Rattle.std.proofs.lemmas.Bool.{eq-eqb, eqb-true, lt-ltb, ltb-true, and_parts, cases_lt}
-use Rattle.std.proofs.lemmas.List.{take_all, take-append-drop, drop-drop, get_or-take, get_or-drop, get_or_past}
-use Rattle.little_endian.specs.Little.{le, bytes, Bytes, part}
-use Rattle.little_endian.proofs.Widths.{le_bytes, bytes_le}
+use Rattle.std.proofs.Common.{◌≡◌, ℕ, zero, suc, ◌+◌, ◌-◌, ◌%◌, ◌^◌, ◌<◌, ◌≤◌, Bool, true, false, cond, ◌&&◌, eqb, ltb, List, [], ◌∷◌, ◌++◌, length, get_or, take, drop, replicate, Ok, Err, Result, sym, refl, ap, ◌∙◌, subst, arith, length-drop, drop-cons}
+use Rattle.std.proofs.lemmas.Bool.{eq-eqb, eqb-true, lt-ltb, ltb-true, and_parts}
+use Rattle.std.proofs.lemmas.List.{take-append-drop, drop-drop}
+use Rattle.little_endian.specs.Little.{le, bytes, part}
+use Rattle.little_endian.proofs.Widths.{le-bytes, part-back}
 use Rattle.answers.specs.declared.Refusal.{Refusal}
 use Rattle.answers.specs.declared.Refusal.TheVariants.{NotAHeader, Malformed}
 use Rattle.instruction.specs.declared.Instruction.{Instruction}
 use Rattle.instruction.specs.Layout.{instruction_in, unused_zero, field, Reads, Fit}
 use Rattle.instruction.proofs.Trips.{there, reads}
+use Rattle.device.proofs.Splices.{cut-bytes}
 use Rattle.journal.specs.declared.header.Header.{Header}
 use Rattle.journal.specs.Blocks.{zeros, header_bytes, header_in, is_header, mark_bytes, is_mark, record_bytes, record_in, is_record, all_zero}
 use Rattle.journal.specs.Reading.{Proper, ReadsHeader, ReadsMark, ReadsRecord}
-
-pub header-length : (h : Header) → length (header_bytes h) ≡ 256
-header-length h = refl
-
-pub mark-length : (k : ℕ) → length (mark_bytes k) ≡ 256
-mark-length k = refl
-
-pub record-length : (k : ℕ) (x : Instruction) → length (record_bytes k x) ≡ 256
-record-length k x = refl
 
 pub zeros-no-mark : (k : ℕ) → k < 2 ^ 32 → zeros ≡ mark_bytes k → ⊥
 zeros-no-mark k h e =
@@ -32,18 +24,18 @@ zeros-no-mark k h e =
 
 pub mark-is : (k : ℕ) → k < 2 ^ 32 → is_mark k (mark_bytes k) ≡ true
 mark-is k h =
-    let a : eqb (le (bytes 4 k)) k ≡ true = eq-eqb _ _ (le_bytes 4 k h) in
-    let b : eqb (le (bytes 4 (4294967295 - k))) (4294967295 - k) ≡ true = eq-eqb _ _ (le_bytes 4 (4294967295 - k) (omega arith)) in
+    let a : eqb (le (bytes 4 k)) k ≡ true = eq-eqb _ _ (le-bytes 4 k h) in
+    let b : eqb (le (bytes 4 (4294967295 - k))) (4294967295 - k) ≡ true = eq-eqb _ _ (le-bytes 4 (4294967295 - k) (omega arith)) in
     rw (a, b)
 
 pub record-read : (k : ℕ) (x : Instruction) → k < 2 ^ 32 → Fit x → record_in k (record_bytes k x) ≡ Ok x
 record-read k x h f =
-    let a : eqb (le (bytes 4 k)) k ≡ true = eq-eqb _ _ (le_bytes 4 k h) in
+    let a : eqb (le (bytes 4 k)) k ≡ true = eq-eqb _ _ (le-bytes 4 k h) in
     rw a (there x f)
 
-pub header_read : (h : Header) → h.register < 256 → h.cash < 256 → 0 < h.pairs → h.pairs < 32768 → header_in (header_bytes h) ≡ Ok h
-header_read h r c low high =
-    let p : le (bytes 4 h.pairs) ≡ h.pairs = le_bytes 4 h.pairs (omega arith) in
+pub header-read : (h : Header) → h.register < 256 → h.cash < 256 → 0 < h.pairs → h.pairs < 32768 → header_in (header_bytes h) ≡ Ok h
+header-read h r c low high =
+    let p : le (bytes 4 h.pairs) ≡ h.pairs = le-bytes 4 h.pairs (omega arith) in
     let a : ltb 0 (le (bytes 4 h.pairs)) ≡ true = lt-ltb _ _ (omega arith) in
     let b : ltb (le (bytes 4 h.pairs)) 32768 ≡ true = lt-ltb _ _ (omega arith) in
     rw (a, b) (λ k. Ok (record { register = h.register; cash = h.cash; pairs = p k }))
@@ -68,13 +60,11 @@ part-rest (suc w) i j bs e l = drop-cons bs i 0 (omega arith) ∙ ap (λ (t : Li
 passed : {X : Type 0} (b : Bool) (r : Result X Refusal) (e : Refusal) (x : X) → cond b r (Err e) ≡ Ok x → (b ≡ true) × (r ≡ Ok x)
 passed true r e x h = (refl, h)
 passed false r e x h =
-    let z : ◌≡◌ {A = ℕ} 0 1 = cc in
-    absurd (omega arith)
+    absurd cc
 
 refuses : {X : Type 0} {e : Refusal} {x : X} → ◌≡◌ {A = Result X Refusal} (Err e) (Ok x) → ⊥
 refuses h =
-    let z : ◌≡◌ {A = ℕ} 0 1 = cc in
-    omega arith
+    cc
 
 -- a reading whose every refusal is e
 refused : {X : Type 0} (b : Bool) (r : Result X Refusal) (e f : Refusal) → ((g : Refusal) → r ≡ Err g → g ≡ e) → Err f ≡ cond b r (Err e) → f ≡ e
@@ -82,25 +72,14 @@ refused true r e f only h = only f (sym h)
 refused false r e f only h = cc
 
 module _ (bs : List ℕ) (l : length bs ≡ 256) (small : (i : ℕ) → get_or bs i 0 < 256) where
-  all-part : (at w : ℕ) → Bytes (part at w bs)
-  all-part at zero = tt
-  all-part at (suc w) = (small at, all-part (suc at) w)
-
   -- the number in four bytes, written again
   four : (at n : ℕ) → eqb (field at 4 bs) n ≡ true → bytes 4 n ≡ part at 4 bs
-  four at n e = ap (bytes 4) (sym (eqb-true (field at 4 bs) n e)) ∙ bytes_le (part at 4 bs) (all-part at 4)
+  four at n e = ap (bytes 4) (sym (eqb-true (field at 4 bs) n e)) ∙ part-back at 4 bs small
 
   rest-zero : (j n : ℕ) → j + n ≡ 256 → all_zero (drop j bs) ≡ true → replicate n 0 ≡ drop j bs
   rest-zero j n e z = zeros-are (drop j bs) n (length-drop j bs ∙ omega arith) z
 
-  cut-bytes : (n o k : ℕ) → get_or (take n (drop o bs)) k 0 < 256
-  cut-bytes n o k =
-      elim (cases_lt k n) [
-        | inl m ↦ rw (get_or-take n (drop o bs) k 0 m, get_or-drop o bs k 0) (small (o + k))
-        | inr g ↦ rw (get_or_past (take n (drop o bs)) k 0 (omega (arith, length-take n (drop o bs)))) (lit< tt)
-      ]
-
-  mark-back : (k : ℕ) → is_mark k bs ≡ true → bs ≡ mark_bytes k
+  pub mark-back : (k : ℕ) → is_mark k bs ≡ true → bs ≡ mark_bytes k
   mark-back k e =
       let p = and_parts (eqb (field 0 4 bs) k) _ e in
       let q = and_parts (eqb (field 4 4 bs) (4294967295 - k)) _ p.1 in
@@ -109,62 +88,50 @@ module _ (bs : List ℕ) (l : length bs ≡ 256) (small : (i : ℕ) → get_or b
       let z = rest-zero 8 248 refl q.1 in
       part-rest 8 0 8 bs refl (omega arith) ∙ sym (λ i. a i ++ (b i ++ z i))
 
-  record-back : (k : ℕ) (x : Instruction) → record_in k bs ≡ Ok x → record_bytes k x ≡ bs
+  pub record-back : (k : ℕ) (x : Instruction) → record_in k bs ≡ Ok x → record_bytes k x ≡ bs
   record-back k x e =
       let t = passed (is_record k bs) _ Malformed x e in
       let p = and_parts (eqb (field 0 4 bs) k) _ t.0 in
       let q = and_parts (eqb (field 4 4 bs) 1) _ p.1 in
       let a = four 0 k p.0 in
       let b : bytes 4 1 ≡ part 4 4 bs = four 4 1 q.0 in
-      let body = (subst (Reads (take 32 (drop 8 bs))) t.1 (reads (take 32 (drop 8 bs)) (cut-bytes 32 8))).1 in
+      let body = (subst (Reads (take 32 (drop 8 bs))) t.1 (reads (take 32 (drop 8 bs)) (cut-bytes bs 32 8 small))).1 in
       let z = rest-zero 40 216 refl q.1 in
       (λ i. a i ++ (b i ++ (body i ++ z i)))
       ∙ ap (λ (t : List ℕ). part 0 8 bs ++ (take 32 (drop 8 bs) ++ t)) (sym (drop-drop 32 8 bs))
       ∙ ap (λ (t : List ℕ). part 0 8 bs ++ t) (take-append-drop 32 (drop 8 bs))
       ∙ sym (part-rest 8 0 8 bs refl (omega arith))
 
-  header-fields : is_header bs ≡ true → Proper (record { register = get_or bs 2 0; cash = get_or bs 3 0; pairs = field 4 4 bs })
-  header-fields t =
-      let p = and_parts (eqb (get_or bs 0 0) 1) _ t in
-      let q = and_parts (eqb (get_or bs 1 0) 2) _ p.1 in
-      let r = and_parts (ltb 0 (field 4 4 bs)) _ q.1 in
-      let s = and_parts (ltb (field 4 4 bs) 32768) _ r.1 in
-      record { register = small 2; cash = small 3; some = ltb-true _ _ r.0; few = ltb-true _ _ s.0 }
-
-  header-same : is_header bs ≡ true → header_bytes (record { register = get_or bs 2 0; cash = get_or bs 3 0; pairs = field 4 4 bs }) ≡ bs
-  header-same t =
+  header-back : is_header bs ≡ true
+      → Proper (record { register = get_or bs 2 0; cash = get_or bs 3 0; pairs = field 4 4 bs })
+      × (header_bytes (record { register = get_or bs 2 0; cash = get_or bs 3 0; pairs = field 4 4 bs }) ≡ bs)
+  header-back t =
       let p = and_parts (eqb (get_or bs 0 0) 1) _ t in
       let q = and_parts (eqb (get_or bs 1 0) 2) _ p.1 in
       let r = and_parts (ltb 0 (field 4 4 bs)) _ q.1 in
       let s = and_parts (ltb (field 4 4 bs) 32768) _ r.1 in
       let one = sym (eqb-true (get_or bs 0 0) 1 p.0) in
       let two = sym (eqb-true (get_or bs 1 0) 2 q.0) in
-      let n = bytes_le (part 4 4 bs) (all-part 4 4) in
+      let n = part-back 4 4 bs small in
       let z = rest-zero 8 248 refl s.1 in
-      (λ i. one i ∷ two i ∷ get_or bs 2 0 ∷ get_or bs 3 0 ∷ (n i ++ z i)) ∙ sym (part-rest 8 0 8 bs refl (omega arith))
-
-pub is-mark : (k : ℕ) (bs : List ℕ) → length bs ≡ 256 → ((i : ℕ) → get_or bs i 0 < 256) → is_mark k bs ≡ true → bs ≡ mark_bytes k
-is-mark k bs l small e = mark-back bs l small k e
-
-pub read-record : (k : ℕ) (bs : List ℕ) (x : Instruction) → length bs ≡ 256 → ((i : ℕ) → get_or bs i 0 < 256) → record_in k bs ≡ Ok x → record_bytes k x ≡ bs
-read-record k bs x l small e = record-back bs l small k x e
+      (record { register = small 2; cash = small 3; some = ltb-true _ _ r.0; few = ltb-true _ _ s.0 }, (λ i. one i ∷ two i ∷ get_or bs 2 0 ∷ get_or bs 3 0 ∷ (n i ++ z i)) ∙ sym (part-rest 8 0 8 bs refl (omega arith)))
 
 pub read-header : (bs : List ℕ) (h : Header) → length bs ≡ 256 → ((i : ℕ) → get_or bs i 0 < 256) → header_in bs ≡ Ok h → Proper h × (header_bytes h ≡ bs)
 read-header bs h l small e =
     let t = passed (is_header bs) _ NotAHeader h e in
     let is : record { register = get_or bs 2 0; cash = get_or bs 3 0; pairs = field 4 4 bs } ≡ h = cc in
-    (subst Proper is (header-fields bs l small t.0), ap header_bytes (sym is) ∙ header-same bs l small t.0)
+    (subst Proper is (header-back bs l small t.0).0, ap header_bytes (sym is) ∙ (header-back bs l small t.0).1)
 
 -- both ways
 
 pub reads-mark : (k : ℕ) (bs : List ℕ) → k < 2 ^ 32 → length bs ≡ 256 → ((i : ℕ) → get_or bs i 0 < 256) → ReadsMark k bs (is_mark k bs)
-reads-mark k bs h l small = record { good = is-mark k bs l small; only = λ e. ap (is_mark k) e ∙ mark-is k h }
+reads-mark k bs h l small = record { good = mark-back bs l small k; only = λ e. ap (is_mark k) e ∙ mark-is k h }
 
 malformed : (bs : List ℕ) (e : Refusal) → instruction_in bs ≡ Err e → e ≡ Malformed
 malformed bs e h = refused (eqb (length bs) 32 && unused_zero bs) _ Malformed e (λ g q. absurd (refuses (sym q))) (sym h)
 
 pub reads-record : (k : ℕ) (bs : List ℕ) (r : Result Instruction Refusal) → k < 2 ^ 32 → length bs ≡ 256 → ((i : ℕ) → get_or bs i 0 < 256) → r ≡ record_in k bs → ReadsRecord k bs r
-reads-record k bs (Ok x) h l small e = read-record k bs x l small (sym e)
+reads-record k bs (Ok x) h l small e = record-back bs l small k x (sym e)
 reads-record k bs (Err f) h l small e = (
   refused (is_record k bs) _ Malformed f (malformed (take 32 (drop 8 bs))) e,
   λ x fits is. refuses (e ∙ ap (record_in k) (sym is) ∙ record-read k x h fits),
@@ -174,19 +141,15 @@ pub reads-header : (bs : List ℕ) (r : Result Header Refusal) → length bs ≡
 reads-header bs (Ok h) l small e = read-header bs h l small (sym e)
 reads-header bs (Err f) l small e = (
   refused (is_header bs) _ NotAHeader f (λ g q. absurd (refuses (sym q))) e,
-  λ h p is. refuses (e ∙ ap header_in (sym is) ∙ header_read h p.register p.cash p.some p.few),
+  λ h p is. refuses (e ∙ ap header_in (sym is) ∙ header-read h p.register p.cash p.some p.few),
 )
 
 -- a mark has one true test
-pub same_test : (k : ℕ) (bs : List ℕ) (r t : Bool) → ReadsMark k bs r → ReadsMark k bs t → r ≡ t
-same_test k bs true true a b = refl
-same_test k bs true false a b = sym (b.only (a.good refl))
-same_test k bs false true a b = a.only (b.good refl)
-same_test k bs false false a b = refl
-
--- the part of a record past its instruction
-pub rest-is : (bs : List ℕ) → length bs ≡ 256 → take 216 (drop 40 bs) ≡ drop 40 bs
-rest-is bs l = take_all 216 (drop 40 bs) (omega (arith, length-drop 40 bs))
+pub same-test : (k : ℕ) (bs : List ℕ) (r t : Bool) → ReadsMark k bs r → ReadsMark k bs t → r ≡ t
+same-test k bs true true a b = refl
+same-test k bs true false a b = sym (b.only (a.good refl))
+same-test k bs false true a b = a.only (b.good refl)
+same-test k bs false false a b = refl
 
 -- a header whose every test was passed
 pub header-told : (bs : List ℕ) (n : ℕ) → get_or bs 0 0 ≡ 1 → get_or bs 1 0 ≡ 2 → n ≡ field 4 4 bs → 1 ≤ n → n ≤ 32767 → true ≡ all_zero (drop 8 bs)
@@ -196,10 +159,17 @@ header-told bs n one two is low high z =
     let b : ltb (field 4 4 bs) 32768 ≡ true = lt-ltb _ _ (omega arith) in
     rw (one, two, a, b, sym z) (λ i. Ok (record { register = get_or bs 2 0; cash = get_or bs 3 0; pairs = is i }))
 
--- a record whose every test was passed
-pub record-told : (k : ℕ) (bs : List ℕ) → field 0 4 bs ≡ k → field 4 4 bs ≡ 1 → true ≡ all_zero (drop 40 bs)
-    → instruction_in (take 32 (drop 8 bs)) ≡ record_in k bs
-record-told k bs is one z =
-    let a : eqb (field 0 4 bs) k ≡ true = eq-eqb _ _ is in
-    let b : eqb (field 4 4 bs) 1 ≡ true = eq-eqb _ _ one in
-    rw (a, b, sym z) refl
+-- a record read by the record of its instruction: another stands there, or it is that one
+pub record-other : (k : ℕ) (bs : List ℕ) (x : Instruction) → length bs ≡ 256 → ((i : ℕ) → get_or bs i 0 < 256) → instruction_in (take 32 (drop 8 bs)) ≡ Ok x
+    → (bs ≡ record_bytes k x → ⊥) → Err Malformed ≡ record_in k bs
+record-other k bs x l small h n = unread (is_record k bs) _ (λ t. n (sym (record-back bs l small k x (ap (λ b. cond b (instruction_in (take 32 (drop 8 bs))) (Err Malformed)) t ∙ h))))
+  where
+    unread : (b : Bool) (r : Result Instruction Refusal) → (b ≡ true → ⊥) → Err Malformed ≡ cond b r (Err Malformed)
+    unread true r n = absurd (n refl)
+    unread false r n = refl
+
+pub record-same : (k : ℕ) (bs : List ℕ) (x : Instruction) → k < 2 ^ 32 → instruction_in (take 32 (drop 8 bs)) ≡ Ok x → bs ≡ record_bytes k x → Ok x ≡ record_in k bs
+record-same k bs x h i e =
+    let a : eqb (le (bytes 4 k)) k ≡ true = eq-eqb _ _ (le-bytes 4 k h) in
+    let good : is_record k (record_bytes k x) ≡ true = rw a refl in
+    sym i ∙ sym (ap (λ t. cond t (instruction_in (take 32 (drop 8 bs))) (Err Malformed)) (ap (is_record k) e ∙ good))

@@ -74,10 +74,3 @@ module _ {X : Type 0} (L : Layout X) where
     pub marks : (k : ℕ) → k < length xs → Firm m (mark_at k) (L.mark k)
     pub beyond : (k : ℕ) → length xs < k → k < L.pairs → Blank m k
     pub tail : Tail m (length xs) hand
-
-  -- what an opening that reads all of its journal finds
-  pub record Found (m : Medium) (ys : List X) : Type 0 where
-    pub room : length ys ≤ L.pairs
-    pub marks : (k : ℕ) → k < length ys → Good m k
-    pub records : (k : ℕ) → k < length ys → (bs : List ℕ) × (m.holds (record_at k) ≡ Some bs) × (L.read k bs ≡ Some (slice_index_or ys k L.blank))
-    pub stop : length ys < L.pairs → Good m (length ys) → ⊥

@@ -4,7 +4,6 @@ ghost use Rattle.std.specs.Prelude.{◌≡◌};
 ghost use Rattle.journal.specs.Blocks.{mark_bytes, is_mark, record_bytes, record_in};
 ghost use Rattle.journal.specs.Reading.{ReadsMark, ReadsRecord};
 
-use crate::zeros::all_zero;
 use answers::Refusal;
 use instruction::Instruction;
 use little_endian::LittleEndian;
@@ -43,15 +42,9 @@ pub fn read_record(block: &[u8; 256], entry: u32) -> Result<Instruction, Refusal
     ensures value { result ≡ record_in entry block.now }
     ensures exact { ReadsRecord entry block.now result }
 {
-    let [k0, k1, k2, k3, n0, n1, n2, n3, ..] = block;
-    if u32::from_little_endian(&[*k0, *k1, *k2, *k3]) != entry {
+    let x = Instruction::from_bytes(&block[8..40])?;
+    if *block != record_block(entry, &x) {
         return Err(Refusal::Malformed);
     }
-    if u32::from_little_endian(&[*n0, *n1, *n2, *n3]) != 1 {
-        return Err(Refusal::Malformed);
-    }
-    if !all_zero(&block[40..]) {
-        return Err(Refusal::Malformed);
-    }
-    Instruction::from_bytes(&block[8..40])
+    Ok(x)
 }

@@ -33,7 +33,8 @@ impl Header {
         block
     }
 
-    // A block of any other edition, number of books or of pairs is not a header, nor is one with a byte past them.
+    // A block of any other edition, number of books or of pairs is not a header, nor is one with a byte
+    // past them that is not 0.
     pub fn from_block(block: &[u8; 256]) -> Result<Header, Refusal>
         ensures value { result ≡ header_in block.now }
         ensures exact { ReadsHeader block.now result }

@@ -5,13 +5,13 @@ use Rattle.std.proofs.lemmas.Bool.Decides.{nat_tests}
 use Rattle.std.proofs.lemmas.Bool.{cond-false}
 use Rattle.answers.specs.declared.Refusal.{Refusal}
 use Rattle.answers.specs.declared.Fault.{Fault}
-use Rattle.instruction.specs.declared.Kind.TheVariants.{Issue, PayIn, Enter, Earmark, Fund, Settle, Free}
+use Rattle.instruction.specs.declared.Kind.TheVariants.{Issue, PayIn, Enter}
 use Rattle.instruction.specs.declared.Instruction.{Instruction}
 use Rattle.instruction.specs.Kinds.{kind_at}
 use Rattle.book.specs.declared.Book as book
 use Rattle.book.specs.Rulings.{first, on_ok}
 use Rattle.rulebook.specs.declared.State.{State}
-use Rattle.rulebook.specs.declared.State.TheVariants.{Entered, Earmarked, Funded, Settled, Freed}
+use Rattle.rulebook.specs.declared.State.TheVariants.{Entered}
 use Rattle.rulebook.specs.declared.Terms.{Terms}
 use Rattle.rulebook.specs.declared.Trade.{Trade}
 use Rattle.rulebook.specs.Table.{Act, after, starts, next}
@@ -67,21 +67,18 @@ module _ (rows : List Trade) (x : Instruction) (whole : length rows ≡ 128) whe
             ∙ same-terms (terms_at rows) x.trade u ∙ ap (λ b. terms_after b (terms_at rows) x u) (sym i);
       })
 
-  pub turned_rows : (h : Rulebook) (k : Act) (m : Terms) (s : Standing) → first (all_checks h k o m s x) ≡ Ok tt → Turned k x rows (rows_after k x rows)
-  turned_rows h (Some Issue) m s p = record { states = λ u. refl; terms = λ u. refl }
-  turned_rows h (Some PayIn) m s p = record { states = λ u. refl; terms = λ u. refl }
-  turned_rows h None m s p = record { states = λ u. refl; terms = λ u. refl }
-  turned_rows h (Some Enter) m s p =
+  pub turned-rows : (h : Rulebook) (k : Act) (m : Terms) (s : Standing) → first (all_checks h k o m s x) ≡ Ok tt → Turned k x rows (rows_after k x rows)
+  turned-rows h (Some Issue) m s p = record { states = λ u. refl; terms = λ u. refl }
+  turned-rows h (Some PayIn) m s p = record { states = λ u. refl; terms = λ u. refl }
+  turned-rows h None m s p = record { states = λ u. refl; terms = λ u. refl }
+  turned-rows h (Some Enter) m s p =
       let r = right h (Some Enter) o m s x tt p in
       let v : Trade = record { state = Entered; terms = terms_of x } in
       rw (moved (Some Enter) Entered refl r.from) (record {
         states = λ u. put-state rows x.trade v whole r.low u;
         terms = λ u. put-terms rows x.trade v whole r.low u;
       })
-  turned_rows h (Some Earmark) m s p = let r = right h (Some Earmark) o m s x tt p in keeps-terms (Some Earmark) Earmarked refl refl r.from r.low
-  turned_rows h (Some Fund) m s p = let r = right h (Some Fund) o m s x tt p in keeps-terms (Some Fund) Funded refl refl r.from r.low
-  turned_rows h (Some Settle) m s p = let r = right h (Some Settle) o m s x tt p in keeps-terms (Some Settle) Settled refl refl r.from r.low
-  turned_rows h (Some Free) m s p = let r = right h (Some Free) o m s x tt p in keeps-terms (Some Free) Freed refl refl r.from r.low
+  turned-rows h k m s p = let r = right h k o m s x tt p in keeps-terms k _ refl refl r.from r.low
 
 -- an answer with its trade is a yes where the answer is, and a refused instruction leaves all as it was
 pub accepts : (x : Instruction) (r : Result (Unit {0}) Refusal) → with_trade x r ≡ Ok tt → r ≡ Ok tt
@@ -109,7 +106,7 @@ given-carried r c p q x k is v (xs, run) er ec et =
     let trade = trade_at rows x.trade in
     let ok = accepts x (answer h s x) v in
     let takes = carried-out h xs s x run ok in
-    let tr = turned_rows rows x p.trades.whole h k trade.terms s (subst (λ k. answer_as h k s x ≡ Ok tt) is ok) in
+    let tr = turned-rows rows x p.trades.whole h k trade.terms s (subst (λ k. answer_as h k s x ≡ Ok tt) is ok) in
     let done : (d : Side) → book_after (h.kind d) d k x trade (s.book d) ≡ (effect s x).book d = λ d.
     ap (λ k. book_after (h.kind d) d k x trade (s.book d)) (sym is) ∙ sym (outcome-ok (h.kind d) (s.book d) (deed (kind_at x.kind) d trade.state trade.terms x) (sym (takes d))) in
     let leads : standing_in r c q ≡ effect s x =

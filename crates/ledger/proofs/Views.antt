@@ -7,11 +7,11 @@ use Rattle.std.proofs.lemmas.Bool.{cases_lt}
 use Rattle.book.specs.declared.Book as book
 use Rattle.book.specs.declared.Holding.{Holding}
 use Rattle.book.specs.Holdings.{Holdings, BookKind, nothing}
-use Rattle.book.specs.Rulings.{holding_at}
+use Rattle.book.specs.Rulings.{no_holding, holding_at}
 use Rattle.rulebook.specs.declared.Trade.{Trade}
 use Rattle.rulebook.specs.Terms.{Side, securities, cash}
 use Rattle.rulebook.specs.Rules.{Rulebook, Standing, empty, start, Reached}
-use Rattle.ledger.specs.View.{by_side, standing, no_holding, holding_in, holdings_in, table_of, Tables, tables_in, standing_of, standing_in}
+use Rattle.ledger.specs.View.{by_side, standing, holding_in, holdings_in, table_of, Tables, tables_in, standing_of, standing_in}
 use Rattle.ledger.specs.declared.parts.Parts.{Parts}
 use Rattle.ledger.specs.Rows.{blank, state_at, terms_at}
 

@@ -8,7 +8,7 @@ use Rattle.instruction.specs.declared.Instruction.{Instruction}
 use Rattle.book.specs.declared.Book as book
 use Rattle.book.specs.declared.Holding.{Holding}
 use Rattle.book.specs.Holdings.{Holdings, BookKind}
-use Rattle.book.specs.Rulings.{asked, holding_at, outcome}
+use Rattle.book.specs.Rulings.{no_holding, asked, holding_at, outcome}
 use Rattle.rulebook.specs.declared.Trade.{Trade}
 use Rattle.ledger.specs.declared.parts.Parts.{Parts}
 use Rattle.rulebook.specs.Terms.{Side, securities, cash}
@@ -31,9 +31,6 @@ standing r c rows = record { book = by_side r c; state = state_at rows; terms = 
 -- a book in a table: a row for each account, and in it a holding for each item
 abbrev pub Table : Type 0
 Table = List (List Holding)
-
-abbrev pub no_holding : Holding
-no_holding = record { free = 0; blocked = 0 }
 
 -- an account or an item that the table has not has nothing
 abbrev pub holding_in : Table → ℕ → ℕ → Holding

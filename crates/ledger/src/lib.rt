@@ -94,7 +94,6 @@ impl<R: Book, C: Book> Ledger<R, C> {
         Ok(())
     }
 
-    // The state of a trade.
     pub fn trade_state(&self, number: u32) -> Result<State, Refusal>
         ensures { result ≡ state_question (standing_of self.now).state number }
     {

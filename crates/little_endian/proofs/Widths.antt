@@ -1,25 +1,15 @@
 -- LittleEndian numbers, once for every width. Assumes nothing.
 use Rattle.std.proofs.Common.{◌≡◌, ℕ, zero, suc, ◌+◌, ◌*◌, ◌/◌, ◌%◌, ◌^◌, ◌<◌, ◌≤◌, List, [], ◌∷◌, length, get_or, take, drop, refl, ap, ◌∙◌, div-lt_iff_lt-mul, pow-suc, arith, lit<, drop-cons}
+use Rattle.std.specs.List.{AllByRecursion}
 use native.Mathlib.Nat.{mod-add-div}
 use Rattle.std.proofs.lemmas.List.{drop_all}
-use Rattle.little_endian.specs.Little.{le, bytes, Bytes, part, EveryWidth}
+use Rattle.little_endian.specs.Little.{le, bytes, part, EveryWidth}
 
-pub le_bytes : (w n : ℕ) → n < 256 ^ w → le (bytes w n) ≡ n
-le_bytes zero n h = omega arith
-le_bytes (suc w) n h =
+pub le-bytes : (w n : ℕ) → n < 256 ^ w → le (bytes w n) ≡ n
+le-bytes zero n h = omega arith
+le-bytes (suc w) n h =
     let lt : n / 256 < 256 ^ w = (div-lt_iff_lt-mul (lit< tt)).1 (rw pow-suc at h) in
-    ap (λ m. n % 256 + 256 * m) (le_bytes w (n / 256) lt) ∙ mod-add-div n 256
-
-pub bytes_le : (bs : List ℕ) → Bytes bs → bytes (length bs) (le bs) ≡ bs
-bytes_le [] h = refl
-bytes_le (b ∷ bs) h =
-    let low : (b + 256 * le bs) % 256 ≡ b = omega (arith, h.0) in
-    let high : (b + 256 * le bs) / 256 ≡ le bs = omega (arith, h.0) in
-    let rest = bytes_le bs h.1 in
-    rw (low, high, rest)
-
-pub every_width : EveryWidth
-every_width = record { written = le_bytes; read = bytes_le }
+    ap (λ m. n % 256 + 256 * m) (le-bytes w (n / 256) lt) ∙ mod-add-div n 256
 
 part-drop : (w i : ℕ) (bs : List ℕ) → length bs ≡ i + w → drop i bs ≡ part i w bs
 part-drop zero i bs h = let l : length bs ≤ i = omega arith in drop_all i bs l
@@ -31,9 +21,24 @@ part-drop (suc w) i bs h =
 pub part-whole : (w : ℕ) (bs : List ℕ) → length bs ≡ w → bs ≡ part 0 w bs
 part-whole w bs h = part-drop w 0 bs (omega arith)
 
--- a number that is read byte by byte is what the string means
-pub le-part : (w : ℕ) (bs : List ℕ) → length bs ≡ w → le bs ≡ le (part 0 w bs)
-le-part w bs h = ap le (part-whole w bs h)
+-- one byte more, written again
+byte-back : (b n w : ℕ) → b < 256 → bytes (suc w) (b + 256 * n) ≡ b ∷ bytes w n
+byte-back b n w small =
+    let low : (b + 256 * n) % 256 ≡ b = omega (arith, small) in
+    let high : (b + 256 * n) / 256 ≡ n = omega (arith, small) in
+    rw (low, high) refl
+
+bytes-le : (bs : List ℕ) → AllByRecursion (λ b. b < 256) bs → bytes (length bs) (le bs) ≡ bs
+bytes-le [] h = refl
+bytes-le (b ∷ bs) h = byte-back b (le bs) (length bs) h.0 ∙ ap (λ t. b ∷ t) (bytes-le bs h.1)
+
+-- the bytes from a place on, read and written again
+pub part-back : (at w : ℕ) (bs : List ℕ) → ((k : ℕ) → get_or bs k 0 < 256) → bytes w (le (part at w bs)) ≡ part at w bs
+part-back at zero bs h = refl
+part-back at (suc w) bs h = byte-back (get_or bs at 0) (le (part (suc at) w bs)) w (h at) ∙ ap (λ t. get_or bs at 0 ∷ t) (part-back (suc at) w bs h)
+
+pub every_width : EveryWidth
+every_width = record { written = le-bytes; read = bytes-le }
 
 -- the w bytes from a place on, cut out
 pub part-slice : (w at : ℕ) (bs : List ℕ) → at + w ≤ length bs → take w (drop at bs) ≡ part at w bs

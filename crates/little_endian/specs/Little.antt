@@ -17,10 +17,7 @@ abbrev pub part : ℕ → ℕ → List ℕ → List ℕ
 part at zero bs = []
 part at (suc w) bs = slice_index bs at ∷ part (suc at) w bs
 
-abbrev pub Bytes : List ℕ → Type 0
-Bytes bs = AllByRecursion (λ b. b < 256) bs
-
 -- what is written is read back, and what is read is written back
 pub record EveryWidth : Type 0 where
   pub written : (w n : ℕ) → n < 256 ^ w → le (bytes w n) ≡ n
-  pub read : (bs : List ℕ) → Bytes bs → bytes (length bs) (le bs) ≡ bs
+  pub read : (bs : List ℕ) → AllByRecursion (λ b. b < 256) bs → bytes (length bs) (le bs) ≡ bs

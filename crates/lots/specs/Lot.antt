@@ -1,7 +1,7 @@
 -- One lot. Assumes nothing.
-use Rattle.std.specs.Prelude.{◌≡◌, ℕ, ◌+◌, ◌<◌, ◌≤◌, true, ◌==◌, nat_lt, refl}
-use Rattle.std.proofs.Common.{ap, ◌∙◌, ⊎_elim, arith}
-use Rattle.std.proofs.lemmas.Bool.{ltb-true, eqb-true, ne_eqb, cases_Bool}
+use Rattle.std.specs.Prelude.{◌≡◌, ℕ, ◌+◌, ◌≤◌, true, ◌==◌, nat_lt, refl}
+use Rattle.std.proofs.Common.{ap, ◌∙◌, arith}
+use Rattle.std.proofs.lemmas.Bool.{ltb-true, ne_eqb}
 use Rattle.book.specs.Sums.{up_to, only}
 use Rattle.book.proofs.Sums.{up_to-same, up_to-zero}
 use Rattle.book.proofs.Totals.{up_to-sole}
@@ -25,11 +25,6 @@ count-le Unowned = omega arith
 count-le (Free owner) = omega arith
 count-le (Blocked owner) = omega arith
 
-pub count_none : (l : Lot) → count l ≡ 0 → l ≡ Unowned
-count_none Unowned e = refl
-count_none (Free owner) e = absurd (omega arith)
-count_none (Blocked owner) e = absurd (omega arith)
-
 stranger : (owner a : ℕ) → nat_lt owner 64 ≡ true → 64 ≤ a → only (owner == a) 1 ≡ 0
 stranger owner a e l = let m = ltb-true owner 64 e in ap (λ t. only t 1) (ne_eqb owner a (λ w. omega arith))
 
@@ -42,19 +37,3 @@ pub blocked-stranger : (l : Lot) (a : ℕ) → listed l ≡ true → 64 ≤ a �
 blocked-stranger Unowned a e l = refl
 blocked-stranger (Free owner) a e l = refl
 blocked-stranger (Blocked owner) a e l = stranger owner a e l
-
--- the quantity is 1, and the account is the owner
-sole : (owner a q : ℕ) → 0 < q → q ≤ only (owner == a) 1 → (owner ≡ a) × (q ≡ 1)
-sole owner a q some most =
-    ⊎_elim (λ e. let o : only (owner == a) 1 ≡ 1 = ap (λ t. only t 1) e in (eqb-true owner a e, omega arith))
-    (λ e. let o : only (owner == a) 1 ≡ 0 = ap (λ t. only t 1) e in absurd (omega arith)) (cases_Bool (owner == a))
-
-pub is_free : (l : Lot) (a q : ℕ) → 0 < q → q ≤ free_of l a → (l ≡ Free a) × (q ≡ 1)
-is_free Unowned a q some most = absurd (omega arith)
-is_free (Free owner) a q some most = let s = sole owner a q some most in (ap Free s.0, s.1)
-is_free (Blocked owner) a q some most = absurd (omega arith)
-
-pub is-blocked : (l : Lot) (a q : ℕ) → 0 < q → q ≤ blocked_of l a → (l ≡ Blocked a) × (q ≡ 1)
-is-blocked Unowned a q some most = absurd (omega arith)
-is-blocked (Free owner) a q some most = absurd (omega arith)
-is-blocked (Blocked owner) a q some most = let s = sole owner a q some most in (ap Blocked s.0, s.1)

@@ -8,8 +8,8 @@ ghost use Rattle.book.specs.Holdings.{nothing};
 ghost use Rattle.book.specs.Rulings.{asked, holding_at};
 ghost use Rattle.lots.specs.Owners.{lots_kind, free_of, blocked_of, at};
 ghost use Rattle.lots.specs.Meaning.{meaning};
-ghost use Rattle.lots.specs.Deeds;
-ghost use Rattle.lots.specs.Deeds.{free-outside, blocked-outside};
+ghost use Rattle.lots.specs.Laws;
+ghost use Rattle.lots.specs.Laws.{free-outside, blocked-outside};
 ghost use Rattle.std.proofs.Common.{rules};
 
 use answers::Refusal;
@@ -67,7 +67,7 @@ impl Book for Lots {
 
     ghost fixed = { lots_kind };
 
-    ghost within = { λ b item. Deeds.within b.lots b.owned item };
+    ghost within = { λ b item. Laws.within b.lots b.owned item };
 
     ghost outside = { λ b account item out. (free-outside b.lots b.full b.owned account item out, blocked-outside b.lots b.full b.owned account item out) };
 

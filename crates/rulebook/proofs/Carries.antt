@@ -11,15 +11,15 @@ use Rattle.rulebook.specs.declared.Terms.{Terms}
 use Rattle.rulebook.specs.Table.{Act, starts}
 use Rattle.rulebook.specs.Terms.{Side, securities, cash, giver, taker, asset, volume}
 use Rattle.rulebook.specs.Rules.{Rulebook, Standing, holds, all_checks, is_enter, deed, Runs}
-use Rattle.rulebook.specs.Law.{Proper, Safe, CarriedOut}
+use Rattle.rulebook.specs.Law.{CarriedOut}
 use Rattle.rulebook.proofs.Checks.{passes, cleared, right, settle-from, was-entered}
-use Rattle.rulebook.proofs.Safe.{safe}
+use Rattle.rulebook.proofs.Safe.{Proper, Safe, safe}
 
 neither : (b c : Bool) → b ≡ false → c ≡ false → (b || c) ≡ false
 neither b c p q = rw (p, q)
 
 not-zero : (q : ℕ) → 0 < q → eqb q 0 ≡ false
-not-zero q l = ne_eqb q 0 (λ e. let z : ⊥ = omega arith in z)
+not-zero q l = ne_eqb q 0 (λ e. omega arith)
 
 module _ (h : Rulebook) (s : Standing) (z : Safe h s) (x : Instruction) where
   abbrev m : Terms

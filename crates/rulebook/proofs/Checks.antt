@@ -1,7 +1,6 @@
 -- What an accepted instruction says. Assumes nothing.
-use Rattle.std.proofs.Common.{◌≡◌, ℕ, ◌<◌, Bool, true, false, cond, not, eqb, List, [], ◌∷◌, Some, None, Ok, Err, Result, sym, refl, ap, arith}
-use Rattle.std.proofs.lemmas.Bool.{true≢false, leb-false}
-use Rattle.answers.specs.declared.Refusal.{Refusal}
+use Rattle.std.proofs.Common.{◌≡◌, ℕ, ◌<◌, Bool, true, false, not, eqb, List, [], ◌∷◌, Some, None, Ok, sym, refl, arith}
+use Rattle.std.proofs.lemmas.Bool.{leb-false}
 use Rattle.instruction.specs.declared.Kind.TheVariants.{Issue, PayIn, Enter, Earmark, Fund, Settle, Free}
 use Rattle.instruction.specs.declared.Instruction.{Instruction}
 use Rattle.instruction.specs.Kinds.{code_of, kind_at}
@@ -35,11 +34,7 @@ pub right : (h : Rulebook) (k : Act) (o : State) (m : Terms) (s : Standing) (x :
 right h (Some Issue) o m s x t e = absurd t
 right h (Some PayIn) o m s x t e = absurd t
 right h None o m s x t e = absurd t
-right h (Some Enter) o m s x t e = let c = cleared h m s x (Some Enter) o e in record { low = leb-false _ _ c.1.1.0; from = not-false _ c.1.1.1.0 }
-right h (Some Earmark) o m s x t e = let c = cleared h m s x (Some Earmark) o e in record { low = leb-false _ _ c.1.1.0; from = not-false _ c.1.1.1.0 }
-right h (Some Fund) o m s x t e = let c = cleared h m s x (Some Fund) o e in record { low = leb-false _ _ c.1.1.0; from = not-false _ c.1.1.1.0 }
-right h (Some Settle) o m s x t e = let c = cleared h m s x (Some Settle) o e in record { low = leb-false _ _ c.1.1.0; from = not-false _ c.1.1.1.0 }
-right h (Some Free) o m s x t e = let c = cleared h m s x (Some Free) o e in record { low = leb-false _ _ c.1.1.0; from = not-false _ c.1.1.1.0 }
+right h k o m s x t e = let c = cleared h m s x k o e in record { low = leb-false _ _ c.1.1.0; from = not-false _ c.1.1.1.0 }
 
 -- what the table says of what counts. Enter starts where nothing counts
 pub record Idle (d : Side) (o : State) : Type 0 where
@@ -68,29 +63,8 @@ free-from h o e = grind arith
 
 -- what none of these starts from
 pub was-entered : (h : Rulebook) (k : Act) (o : State) → is_enter k ≡ false → starts k o ≡ true → o ≡ Unentered → ⊥
-was-entered h (Some Issue) o e w z = true≢false (sym w)
-was-entered h (Some PayIn) o e w z = true≢false (sym w)
-was-entered h (Some Enter) o e w z = true≢false e
-was-entered h (Some Earmark) o e w z = grind arith
-was-entered h (Some Fund) o e w z = grind arith
-was-entered h (Some Settle) o e w z = grind arith
-was-entered h (Some Free) o e w z = grind arith
-was-entered h None o e w z = true≢false (sym w)
+was-entered h k o e w z = grind arith
 
 -- the kind byte of an Enter
 pub enter-code : (n : ℕ) → is_enter (kind_at n) ≡ eqb n (code_of Enter)
 enter-code n = grind arith
-
--- a refusal of the first two checks stands whatever comes after them
-pub refused-first : {X Y : Type 0} (a b : Bool) (p q f : Refusal) (v : X) (w : Result Y Refusal)
-    → Err f ≡ cond a (Err p) (cond b (Err q) (Ok v)) → Err f ≡ cond a (Err p) (cond b (Err q) w)
-refused-first true b p q f v w e = let z : f ≡ p = cc in ap (λ r. Err r) z
-refused-first false true p q f v w e = let z : f ≡ q = cc in ap (λ r. Err r) z
-refused-first false false p q f v w e = absurd (let z : ◌≡◌ {A = ℕ} 0 1 = cc in omega arith)
-
--- where those two pass, what comes after them is the answer
-pub passed_first : {X Y : Type 0} (a b : Bool) (p q : Refusal) (v x : X) (w : Result Y Refusal)
-    → Ok x ≡ cond a (Err p) (cond b (Err q) (Ok v)) → w ≡ cond a (Err p) (cond b (Err q) w)
-passed_first true b p q v x w e = absurd (let z : ◌≡◌ {A = ℕ} 0 1 = cc in omega arith)
-passed_first false true p q v x w e = absurd (let z : ◌≡◌ {A = ℕ} 0 1 = cc in omega arith)
-passed_first false false p q v x w e = refl

@@ -1,7 +1,6 @@
 -- The words of the tally and of the table. Assumes nothing.
 use Rattle.std.proofs.Common.{◌≡◌, ℕ, true, false, eqb, List, [], ◌∷◌, ◌++◌, Some, None, Ok, fold, sym, refl, ap, ◌∙◌, subst, ⊎_elim}
 use Rattle.std.specs.List.{AllByRecursion}
-use Rattle.std.proofs.lemmas.List.Sums.{fold_push}
 use Rattle.std.proofs.lemmas.Bool.{eqb-true, eq-eqb, ne_eqb, cases_Bool, cond-true, cond-false}
 use Rattle.instruction.specs.declared.Kind.{Kind}
 use Rattle.instruction.specs.declared.Kind.TheVariants.{Issue, PayIn, Enter, Earmark, Fund, Settle, Free}
@@ -13,37 +12,29 @@ use Rattle.rulebook.specs.declared.State.TheVariants.{Unentered, Entered, Earmar
 use Rattle.rulebook.specs.declared.Terms.{Terms}
 use Rattle.rulebook.specs.Table.{Act, after, starts, next, Steps}
 use Rattle.rulebook.specs.Terms.{no_terms, terms_of}
-use Rattle.rulebook.specs.Rules.{Rulebook, Standing, empty, all_checks, answer, at, turned, effect, Runs, start, more, OfTrade}
+use Rattle.rulebook.specs.Rules.{Rulebook, Standing, all_checks, answer, at, turned, effect, OfTrade}
 use Rattle.rulebook.specs.Tally.{read_state, read_terms}
-use Rattle.rulebook.specs.Words.{After, On, EnterOn, LastWords, standing_after}
+use Rattle.rulebook.specs.Words.{After, On, EnterOn, LastWords}
 use Rattle.rulebook.proofs.Checks.{right, enter-code}
 use Rattle.rulebook.proofs.Tables.{state-table}
 
-at_same : {Y : Type 0} (f : ℕ → Y) (t u : ℕ) (v : Y) → t ≡ u → at f t v u ≡ v
-at_same f t u v e = cond-true (eqb t u) v (f u) (eq-eqb t u e)
+at-same : {Y : Type 0} (f : ℕ → Y) (t u : ℕ) (v : Y) → t ≡ u → at f t v u ≡ v
+at-same f t u v e = cond-true (eqb t u) v (f u) (eq-eqb t u e)
 
-at_other : {Y : Type 0} (f : ℕ → Y) (t u : ℕ) (v : Y) → (t ≡ u → ⊥) → at f t v u ≡ f u
-at_other f t u v ne = cond-false (eqb t u) v (f u) (ne_eqb t u ne)
+at-other : {Y : Type 0} (f : ℕ → Y) (t u : ℕ) (v : Y) → (t ≡ u → ⊥) → at f t v u ≡ f u
+at-other f t u v ne = cond-false (eqb t u) v (f u) (ne_eqb t u ne)
 
 untouched : (k : Act) (f : ℕ → State) (u t : ℕ) → (OfTrade k × (u ≡ t) → ⊥) → turned (after k) f u t ≡ f t
+untouched None f u t h = refl
 untouched (Some Issue) f u t h = refl
 untouched (Some PayIn) f u t h = refl
-untouched (Some Enter) f u t h = at_other f u t Entered (λ e. h (tt, e))
-untouched (Some Earmark) f u t h = at_other f u t Earmarked (λ e. h (tt, e))
-untouched (Some Fund) f u t h = at_other f u t Funded (λ e. h (tt, e))
-untouched (Some Settle) f u t h = at_other f u t Settled (λ e. h (tt, e))
-untouched (Some Free) f u t h = at_other f u t Freed (λ e. h (tt, e))
-untouched None f u t h = refl
+untouched k f u t h = at-other f u t _ (λ e. h (tt, e))
 
 touched : (k : Act) (f : ℕ → State) (u t : ℕ) → OfTrade k → u ≡ t → After k (turned (after k) f u t)
+touched None f u t h e = absurd h
 touched (Some Issue) f u t h e = absurd h
 touched (Some PayIn) f u t h e = absurd h
-touched (Some Enter) f u t h e = at_same f u t Entered e
-touched (Some Earmark) f u t h e = at_same f u t Earmarked e
-touched (Some Fund) f u t h e = at_same f u t Funded e
-touched (Some Settle) f u t h e = at_same f u t Settled e
-touched (Some Free) f u t h e = at_same f u t Freed e
-touched None f u t h e = absurd h
+touched k f u t h e = at-same f u t _ e
 
 stay : (zs : List Instruction) (f : ℕ → State) (t : ℕ) → AllByRecursion (λ z. On t z → ⊥) zs → fold read_state f zs t ≡ f t
 stay [] f t h = refl
@@ -55,11 +46,11 @@ last (y ∷ xs) zs f x t o h = last xs zs (read_state f y) x t o h
 
 terms-kept : (f : ℕ → Terms) (x : Instruction) (t : ℕ) → (EnterOn t x → ⊥) → read_terms f x t ≡ f t
 terms-kept f x t h =
-    ⊎_elim (λ (e : eqb x.kind (code_of Enter) ≡ true). rw (enter-code x.kind, e) (at_other f x.trade t (terms_of x) (λ w. h (eqb-true _ _ e, w))))
+    ⊎_elim (λ (e : eqb x.kind (code_of Enter) ≡ true). rw (enter-code x.kind, e) (at-other f x.trade t (terms_of x) (λ w. h (eqb-true _ _ e, w))))
     (λ (e : eqb x.kind (code_of Enter) ≡ false). rw (enter-code x.kind, e)) (cases_Bool (eqb x.kind (code_of Enter)))
 
 terms-set : (f : ℕ → Terms) (x : Instruction) (t : ℕ) → EnterOn t x → read_terms f x t ≡ terms_of x
-terms-set f x t o = rw (enter-code x.kind, eq-eqb x.kind (code_of Enter) o.0) (at_same f x.trade t (terms_of x) o.1)
+terms-set f x t o = rw (enter-code x.kind, eq-eqb x.kind (code_of Enter) o.0) (at-same f x.trade t (terms_of x) o.1)
 
 terms-stay : (zs : List Instruction) (f : ℕ → Terms) (t : ℕ) → AllByRecursion (λ z. EnterOn t z → ⊥) zs → fold read_terms f zs t ≡ f t
 terms-stay [] f t h = refl
@@ -77,15 +68,11 @@ last-words =
       terms = λ xs zs x t o h. last-terms xs zs (λ u. no_terms) x t o h;
     }
 
-pub leads : (h : Rulebook) {xs : List Instruction} {s : Standing} → Runs h xs s → s ≡ standing_after xs
-leads h start = refl
-leads h (more {xs = xs} {s = s} x r e) = ap (λ z. effect z x) (leads h r) ∙ sym (fold_push effect empty xs x)
-
 -- a trade's instruction leads by the table
 steps : (k : Kind) (o p : State) (f : ℕ → State) (t : ℕ) → after (Some k) ≡ Some p → starts (Some k) o ≡ true → Steps o k (turned (after (Some k)) f t t)
 steps k o p f t e w =
     let n : next (Some k) o ≡ Some p = cond-true (starts (Some k) o) (after (Some k)) None w ∙ e in
-    let v : turned (after (Some k)) f t t ≡ p = ap (λ a. turned a f t t) e ∙ at_same f t t p refl in
+    let v : turned (after (Some k)) f t t ≡ p = ap (λ a. turned a f t t) e ∙ at-same f t t p refl in
     subst (λ q. Steps o k q) (sym v) (state-table.only o p k n)
 
 moves-as : (h : Rulebook) (s : Standing) (x : Instruction) (k : Kind) → OfTrade (Some k) → first (all_checks h (Some k) (s.state x.trade) (s.terms x.trade) s x) ≡ Ok tt

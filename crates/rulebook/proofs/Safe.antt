@@ -1,30 +1,42 @@
 -- What carrying out rests on. Assumes nothing.
 use Rattle.std.proofs.Common.{◌≡◌, ℕ, ◌<◌, ◌≤◌, true, false, eqb, ◌⊎◌, List, Some, None, Ok, sym, refl, ap, ◌∙◌, inl, inr, ⊎_elim, arith}
 use Rattle.std.proofs.lemmas.Bool.{eqb-true, eqb-false, eq-eqb, cases_Bool, leb-false, or_parts}
-use Rattle.instruction.specs.declared.Kind.TheVariants.{Issue, PayIn, Enter, Earmark, Fund, Settle, Free}
+use Rattle.instruction.specs.declared.Kind.TheVariants.{Issue, PayIn, Enter}
 use Rattle.instruction.specs.declared.Instruction.{Instruction}
 use Rattle.instruction.specs.Kinds.{kind_at}
 use Rattle.book.specs.Sums.{only, here}
 use Rattle.book.specs.Rulings.{first}
 use Rattle.rulebook.specs.declared.State.{State}
-use Rattle.rulebook.specs.declared.State.TheVariants.{Unentered, Entered, Earmarked, Funded, Settled, Freed}
+use Rattle.rulebook.specs.declared.State.TheVariants.{Unentered, Entered}
 use Rattle.rulebook.specs.declared.Terms.{Terms}
 use Rattle.rulebook.specs.Table.{Act, after}
 use Rattle.rulebook.specs.Terms.{terms_of, Side, securities, cash, giver, taker, asset, volume}
 use Rattle.rulebook.specs.Rules.{Rulebook, Standing, holds, all_checks, at, turned, is_enter, terms_after, Runs, start, more}
 use Rattle.rulebook.specs.Tally.{credits}
-use Rattle.rulebook.specs.Law.{Proper, Safe}
 use Rattle.rulebook.proofs.Checks.{cleared, right, was-entered}
 use Rattle.rulebook.proofs.Step.{covers}
 use Rattle.rulebook.proofs.Whole.{fair}
 
+-- a trade's terms, once it was entered
+pub record Proper (h : Rulebook) (m : Terms) : Type 0 where
+  pub giver-low : (d : Side) → giver d m < 64
+  pub taker-low : (d : Side) → taker d m < 64
+  pub apart : m.seller ≡ m.buyer → ⊥
+  pub asset-low : (d : Side) → asset d m < (h.kind d).items
+  pub some-volume : (d : Side) → 0 < volume d m
+
+-- what carrying out rests on: terms are proper, and what a trade has blocked is there
+pub record Safe (h : Rulebook) (s : Standing) : Type 0 where
+  pub proper : (t : ℕ) → (s.state t ≡ Unentered) ⊎ Proper h (s.terms t)
+  pub covered : (d : Side) (t : ℕ) → t < 128 → holds d (s.state t) ≡ true → volume d (s.terms t) ≤ (s.book d).blocked (giver d (s.terms t)) (asset d (s.terms t))
+
 module _ (P : Terms → Type 0) (st : ℕ → State) (tm : ℕ → Terms) (h : (t : ℕ) → (st t ≡ Unentered) ⊎ P (tm t)) where
-  set_entered : (t : ℕ) (m : Terms) → P m → (u : ℕ) → (at st t Entered u ≡ Unentered) ⊎ P (at tm t m u)
-  set_entered t m p u =
+  set-entered : (t : ℕ) (m : Terms) → P m → (u : ℕ) → (at st t Entered u ≡ Unentered) ⊎ P (at tm t m u)
+  set-entered t m p u =
       ⊎_elim (λ (e : eqb t u ≡ true). inr (rw e p)) (λ (e : eqb t u ≡ false). rw e (h u)) (cases_Bool (eqb t u))
 
-  set_on : (t : ℕ) (old new : State) → st t ≡ old → (old ≡ Unentered → ⊥) → (u : ℕ) → (at st t new u ≡ Unentered) ⊎ P (tm u)
-  set_on t old new e ne u =
+  set-on : (t : ℕ) (old new : State) → st t ≡ old → (old ≡ Unentered → ⊥) → (u : ℕ) → (at st t new u ≡ Unentered) ⊎ P (tm u)
+  set-on t old new e ne u =
       ⊎_elim (λ (y : eqb t u ≡ true).
       ⊎_elim (λ n. absurd (ne (sym e ∙ ap st (eqb-true t u y) ∙ n))) (λ p. inr p) (h u))
       (λ (y : eqb t u ≡ false). rw y (h u)) (cases_Bool (eqb t u))
@@ -41,36 +53,30 @@ module _ (h : Rulebook) where
       let some = or_parts (eqb x.quantity 0) (eqb x.amount 0) c.1.1.1.0 in
       let seller : x.account < 64 = leb-false _ _ low.0 in
       let buyer : x.counterparty < 64 = leb-false _ _ low.1 in
-      set_entered (Proper h) s.state s.terms q x.trade (terms_of x) (record {
+      set-entered (Proper h) s.state s.terms q x.trade (terms_of x) (record {
         giver-low = λ d. elim d as (λ d. giver d (terms_of x) < 64) [ securities ↦ seller | cash ↦ buyer ];
         taker-low = λ d. elim d as (λ d. taker d (terms_of x) < 64) [ securities ↦ buyer | cash ↦ seller ];
         apart = eqb-false _ _ c.0;
         asset-low = λ d. elim d as (λ d. asset d (terms_of x) < (h.kind d).items) [ securities ↦ leb-false _ _ items.0 | cash ↦ leb-false _ _ items.1 ];
         some-volume = λ d. elim d as (λ d. 0 < volume d (terms_of x)) [ securities ↦ (let z = eqb-false x.quantity 0 some.0 in omega arith) | cash ↦ (let z = eqb-false x.amount 0 some.1 in omega arith) ];
       })
-  proper-step s x q (Some Earmark) o e p =
-      set_on (Proper h) s.state s.terms q x.trade o Earmarked e (was-entered h (Some Earmark) o refl (right h (Some Earmark) o (s.terms x.trade) s x tt p).from)
-  proper-step s x q (Some Fund) o e p =
-      set_on (Proper h) s.state s.terms q x.trade o Funded e (was-entered h (Some Fund) o refl (right h (Some Fund) o (s.terms x.trade) s x tt p).from)
-  proper-step s x q (Some Settle) o e p =
-      set_on (Proper h) s.state s.terms q x.trade o Settled e (was-entered h (Some Settle) o refl (right h (Some Settle) o (s.terms x.trade) s x tt p).from)
-  proper-step s x q (Some Free) o e p =
-      set_on (Proper h) s.state s.terms q x.trade o Freed e (was-entered h (Some Free) o refl (right h (Some Free) o (s.terms x.trade) s x tt p).from)
+  proper-step s x q k o e p =
+      set-on (Proper h) s.state s.terms q x.trade o _ e (was-entered h k o refl (right h k o (s.terms x.trade) s x tt p).from)
 
   proper : {xs : List Instruction} {s : Standing} → Runs h xs s → (t : ℕ) → (s.state t ≡ Unentered) ⊎ Proper h (s.terms t)
   proper start t = inl refl
   proper (more {s = s} x r e) t = proper-step s x (proper r) (kind_at x.kind) (s.state x.trade) refl e t
 
-  holds_not : (d : Side) → holds d Unentered ≡ false
-  holds_not securities = refl
-  holds_not cash = refl
+  holds-not : (d : Side) → holds d Unentered ≡ false
+  holds-not securities = refl
+  holds-not cash = refl
 
   -- what a trade in a holding state has blocked is there
   found : {xs : List Instruction} {s : Standing} → Runs h xs s → (d : Side) (t : ℕ) (o : State) → t < 128 → s.state t ≡ o → holds d o ≡ true → volume d (s.terms t) ≤ (s.book d).blocked (giver d (s.terms t)) (asset d (s.terms t))
   found {xs} {s} r d t o l e ho =
       let m = s.terms t in
       let f = fair h r d (giver d m) (asset d m) in
-      let q = covers d (s.book d) s.state s.terms (credits d xs (giver d m) (asset d m)) (giver d m) (asset d m) t o Unentered l e f ho (holds_not d) in
+      let q = covers d (s.book d) s.state s.terms (credits d xs (giver d m) (asset d m)) (giver d m) (asset d m) t o Unentered l e f ho (holds-not d) in
       let w : only (here (giver d m) (asset d m) (giver d m) (asset d m)) (volume d m) ≡ volume d m = rw (eq-eqb (giver d m) (giver d m) refl, eq-eqb (asset d m) (asset d m) refl) in
       omega (arith, q, w)
 

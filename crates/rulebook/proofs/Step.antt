@@ -89,17 +89,10 @@ holds-freed securities = refl
 holds-freed cash = refl
 
 -- what an instruction of a kind credits
-abbrev pub credited-by : Act → Side → Instruction → ℕ → ℕ → ℕ
-credited-by (Some Issue) securities x a i = only (here x.account x.item a i) x.quantity
-credited-by (Some Issue) cash x a i = 0
-credited-by (Some PayIn) securities x a i = 0
-credited-by (Some PayIn) cash x a i = only (here x.account x.currency a i) x.amount
-credited-by (Some Enter) d x a i = 0
-credited-by (Some Earmark) d x a i = 0
-credited-by (Some Fund) d x a i = 0
-credited-by (Some Settle) d x a i = 0
-credited-by (Some Free) d x a i = 0
-credited-by None d x a i = 0
+abbrev pub credited_by : Act → Side → Instruction → ℕ → ℕ → ℕ
+credited_by (Some Issue) securities x a i = only (here x.account x.item a i) x.quantity
+credited_by (Some PayIn) cash x a i = only (here x.account x.currency a i) x.amount
+credited_by k d x a i = 0
 
 module _ (h : Rulebook) (s : Standing) (x : Instruction) (a i : ℕ) where
   abbrev m : Terms
@@ -111,7 +104,7 @@ module _ (h : Rulebook) (s : Standing) (x : Instruction) (a i : ℕ) where
   abbrev Next : Act → Side → State → ℕ → Type 0
   Next k d o cr = Fair d (apply (s.book d) (deed k d o m x)) (turned (after k) s.state x.trade) (terms_after (is_enter k) s.terms x) cr a i
 
-  pub fair-step : (k : Act) (d : Side) (o : State) (cr n : ℕ) → n ≡ credited-by k d x a i → Fair d (s.book d) s.state s.terms cr a i → s.state x.trade ≡ o → Accepted k o → Next k d o (cr + n)
+  pub fair-step : (k : Act) (d : Side) (o : State) (cr n : ℕ) → n ≡ credited_by k d x a i → Fair d (s.book d) s.state s.terms cr a i → s.state x.trade ≡ o → Accepted k o → Next k d o (cr + n)
   fair-step (Some Issue) securities o cr n c f e p = credited securities (s.book securities) s.state s.terms cr a i x.account x.item x.quantity n c f
   fair-step (Some Issue) cash o cr n c f e p = uncredited _ _ _ _ _ _ _ n c f
   fair-step (Some PayIn) securities o cr n c f e p = uncredited _ _ _ _ _ _ _ n c f

@@ -11,9 +11,9 @@ use Rattle.rulebook.specs.Terms.{no_terms, Side, securities, cash}
 use Rattle.rulebook.specs.Rules.{Rulebook, Standing, turned, is_enter, terms_after, Runs, start, more}
 use Rattle.rulebook.specs.Tally.{read_state, state_in, read_terms, terms_in, credit_at, credits, give_of, take_of, hold_of}
 use Rattle.rulebook.specs.Law.{LawOfTheLedger}
-use Rattle.rulebook.proofs.Step.{Fair, credited-by, fair-step}
+use Rattle.rulebook.proofs.Step.{Fair, credited_by, fair-step}
 
-credit-code : (d : Side) (x : Instruction) (a i : ℕ) → credit_at d x a i ≡ credited-by (kind_at x.kind) d x a i
+credit-code : (d : Side) (x : Instruction) (a i : ℕ) → credit_at d x a i ≡ credited_by (kind_at x.kind) d x a i
 credit-code securities x a i = grind arith
 credit-code cash x a i = grind arith
 
@@ -46,6 +46,10 @@ module _ (h : Rulebook) where
       (fair-step h s x a i (kind_at x.kind) d (s.state x.trade) (credits d xs a i) (credit_at d x a i) (credit-code d x a i) (fair r d a i) refl e)
 
 pub law-of-the-ledger : LawOfTheLedger
-law-of-the-ledger h xs s r d a i =
-    let f = subst₂ (λ st tm. Fair d (s.book d) st tm (credits d xs a i) a i) (state-is h r) (terms-is h r) (fair h r d a i) in
-    record { whole = f.whole; part = f.part }
+law-of-the-ledger h xs s r = record {
+  states = λ t. ap (λ f. f t) (state-is h r);
+  terms = λ t. ap (λ f. f t) (terms-is h r);
+  amounts = λ d a i.
+      let f = subst₂ (λ st tm. Fair d (s.book d) st tm (credits d xs a i) a i) (state-is h r) (terms-is h r) (fair h r d a i) in
+      record { whole = f.whole; part = f.part };
+}

@@ -4,7 +4,7 @@ use Rattle.std.specs.Option.{option_map}
 use Rattle.answers.specs.declared.Refusal.{Refusal}
 use Rattle.answers.specs.declared.Refusal.TheVariants.{NoAccount, NoItem, NoQuantity, OverFree, NoTrade, StrayField, UnknownKind, SameParties, EverEntered, WrongState}
 use Rattle.answers.specs.declared.Fault.{Fault}
-use Rattle.answers.specs.Faults.{plain, on_trade, of_trade}
+use Rattle.answers.specs.Faults.{plain, of_trade}
 use Rattle.instruction.specs.declared.Kind.TheVariants.{Issue, PayIn, Enter, Earmark, Fund, Settle, Free}
 use Rattle.instruction.specs.declared.Instruction.{Instruction}
 use Rattle.instruction.specs.Kinds.{kind_at}
@@ -44,16 +44,10 @@ is_settled o = rank o == rank Settled
 abbrev pub non_zero : ℕ → Bool
 non_zero n = not (n == 0)
 
--- the kinds that the rules know, which so far are the same in every rule book
+-- the kinds that the rules know: the same in every rule book
 abbrev pub known : Rulebook → Act → Bool
-known h (Some Issue) = true
-known h (Some PayIn) = true
-known h (Some Enter) = true
-known h (Some Earmark) = true
-known h (Some Fund) = true
-known h (Some Settle) = true
-known h (Some Free) = true
 known h None = false
+known h (Some k) = true
 
 -- some field other than the kind and the trade is not 0
 abbrev pub past_trade : Instruction → Bool
@@ -97,10 +91,6 @@ module _ (h : Rulebook) where
   checks_of (Some Free) o m s x = trade_checks (Some Free) WrongState o x []
   checks_of None o m s x = []
 
-  -- of the trade that the instruction names
-  abbrev pub own_checks : Act → Standing → Instruction → List Check
-  own_checks k s x = checks_of k (s.state x.trade) (s.terms x.trade) s x
-
   abbrev pub all_checks : Act → State → Terms → Standing → Instruction → List Check
   all_checks k o m s x = not (known h k) refuses UnknownKind ∷ stray k x refuses StrayField ∷ checks_of k o m s x
 
@@ -131,7 +121,7 @@ about x f = cond (names_trade (kind_at x.kind)) (of_trade x.trade f) f
 
 -- so does its refusal
 abbrev pub fault_of : Instruction → Refusal → Fault
-fault_of x r = cond (names_trade (kind_at x.kind)) (on_trade r x.trade) (plain r)
+fault_of x r = about x (plain r)
 
 abbrev pub with_trade : Instruction → Result (Unit {0}) Refusal → Result (Unit {0}) Fault
 with_trade x (Ok u) = Ok u
@@ -149,14 +139,8 @@ turned None f t = f
 turned (Some s) f t = at f t s
 
 abbrev pub is_enter : Act → Bool
-is_enter (Some Issue) = false
-is_enter (Some PayIn) = false
 is_enter (Some Enter) = true
-is_enter (Some Earmark) = false
-is_enter (Some Fund) = false
-is_enter (Some Settle) = false
-is_enter (Some Free) = false
-is_enter None = false
+is_enter k = false
 
 abbrev pub terms_after : Bool → (ℕ → Terms) → Instruction → ℕ → Terms
 terms_after true f x = at f x.trade (terms_of x)

@@ -67,6 +67,6 @@ pub record StateTable : Type 0 where
   -- each of the words is a step
   pub each : (o p : State) (k : Kind) → Steps o k p → next (Some k) o ≡ Some p
   -- a trade that was entered is never unentered again, and a settled or freed one stays so
-  pub no_return : (o : State) (k : Kind) → next (Some k) o ≢ Some Unentered
+  pub no-return : (o : State) (k : Kind) → next (Some k) o ≢ Some Unentered
   pub settled-stays : (p : State) (k : Kind) → next (Some k) Settled ≢ Some p
   pub freed-stays : (p : State) (k : Kind) → next (Some k) Freed ≢ Some p

@@ -1,5 +1,5 @@
 -- The words of the tally, said without a reading from left to right. Assumes nothing.
-use Rattle.std.specs.Prelude.{◌≡◌, ℕ, List, ◌∷◌, ◌++◌, Some, None, fold}
+use Rattle.std.specs.Prelude.{◌≡◌, ℕ, List, ◌∷◌, ◌++◌, Some, None}
 use Rattle.std.specs.List.{AllByRecursion}
 use Rattle.instruction.specs.declared.Kind.TheVariants.{Issue, PayIn, Enter, Earmark, Fund, Settle, Free}
 use Rattle.instruction.specs.declared.Instruction.{Instruction}
@@ -8,7 +8,7 @@ use Rattle.rulebook.specs.declared.State.{State}
 use Rattle.rulebook.specs.declared.State.TheVariants.{Unentered, Entered, Earmarked, Funded, Settled, Freed}
 use Rattle.rulebook.specs.Table.{Act}
 use Rattle.rulebook.specs.Terms.{terms_of}
-use Rattle.rulebook.specs.Rules.{Standing, OfTrade, empty, effect}
+use Rattle.rulebook.specs.Rules.{OfTrade}
 use Rattle.rulebook.specs.Tally.{state_in, terms_in}
 
 -- the state after an instruction of a kind, written out again, so that a slip in the table cannot be shared
@@ -34,7 +34,3 @@ pub record LastWords : Type 0 where
   pub never : (xs : List Instruction) (t : ℕ) → AllByRecursion (λ x. On t x → ⊥) xs → state_in xs t ≡ Unentered
   pub last : (xs zs : List Instruction) (x : Instruction) (t : ℕ) → On t x → AllByRecursion (λ z. On t z → ⊥) zs → After (kind_at x.kind) (state_in (xs ++ (x ∷ zs)) t)
   pub terms : (xs zs : List Instruction) (x : Instruction) (t : ℕ) → EnterOn t x → AllByRecursion (λ z. EnterOn t z → ⊥) zs → terms_in (xs ++ (x ∷ zs)) t ≡ terms_of x
-
--- where a list of accepted instructions leads
-abbrev pub standing_after : List Instruction → Standing
-standing_after xs = fold effect empty xs

@@ -28,16 +28,9 @@ no-room : (bs : List ℕ) → 0 < length bs → remains_in 0 bs ≡ None
 unfolding remains_in
 no-room bs h = search rules
 
-own-start : (o : Option (List ℕ)) → o ≡ then o (λ rs. Some rs)
-own-start (Some rs) = refl
-own-start None = refl
-
 put-on : (o : Option (List ℕ)) (r : ℕ) (read : List ℕ) → then (then o (λ rs. Some (r ∷ rs))) (λ rs. Some (read ++ rs)) ≡ then o (λ rs. Some ((read ++ r ∷ []) ++ rs))
 put-on (Some rs) r read = ap (λ l. Some l) (sym (append_assoc read (r ∷ []) rs))
 put-on None r read = refl
-
-pub going-start : (bs : List ℕ) → Going [] bs bs
-going-start bs = own-start (remains_in 8 bs)
 
 pub going-more : (read start rest : List ℕ) (r : ℕ) → Going read start rest → 0 < length rest → length read < 8 → field_of 255 rest ≡ Some r → Going (read ++ r ∷ []) start (past rest)
 going-more read start rest r g h l f =
@@ -55,19 +48,16 @@ pub going-end : (read start rest : List ℕ) → Going read start rest → lengt
 going-end read start rest g h =
     g ∙ ap (λ o. then o (λ rs. Some (read ++ rs))) (none-left (8 - length read) rest h) ∙ ap (λ l. Some l) (append-nil read) ∙ ended-some rest read h
 
-pub going-no_field : (read start rest : List ℕ) → Going read start rest → 0 < length rest → field_of 255 rest ≡ None → remains_in 8 start ≡ None
-going-no_field read start rest g h f = g ∙ ap (λ o. then o (λ rs. Some (read ++ rs))) (no-field (8 - length read) rest h f)
+pub going-no-field : (read start rest : List ℕ) → Going read start rest → 0 < length rest → field_of 255 rest ≡ None → remains_in 8 start ≡ None
+going-no-field read start rest g h f = g ∙ ap (λ o. then o (λ rs. Some (read ++ rs))) (no-field (8 - length read) rest h f)
 
 pub going-full : (read start rest : List ℕ) → Going read start rest → 0 < length rest → 8 ≤ length read → remains_in 8 start ≡ None
 going-full read start rest g h l =
     let e : 8 - length read ≡ 0 = omega arith in
     g ∙ ap (λ n. then (remains_in n rest) (λ rs. Some (read ++ rs))) e ∙ ap (λ o. then o (λ rs. Some (read ++ rs))) (no-room rest h)
 
-abbrev pub Bytes : List ℕ → Type 0
-Bytes rs = AllByRecursion (λ r. r < 2 ^ 8) rs
-
 -- what is read is the text of that many bytes
-pub remains-sound : (n : ℕ) (bs rs : List ℕ) → remains_in n bs ≡ Some rs → (bs ≡ fields_text rs) × (length rs ≤ n) × Bytes rs
+pub remains-sound : (n : ℕ) (bs rs : List ℕ) → remains_in n bs ≡ Some rs → (bs ≡ fields_text rs) × (length rs ≤ n) × AllByRecursion (λ r. r < 2 ^ 8) rs
 unfolding remains_in
 remains-sound zero bs rs e = search (rules, nil_from_length)
 remains-sound (suc n) [] rs e = search rules
@@ -78,10 +68,10 @@ remains-sound (suc n) (c ∷ cs) rs e =
     let f = field-sound 255 p.0 bs (lit< tt) p.1 in
     let r = remains-sound n (past bs) q.0 q.1 in
     let z : p.0 ∷ q.0 ≡ rs = cc in
-    subst (λ l. (bs ≡ fields_text l) × (length l ≤ suc n) × Bytes l) z
+    subst (λ l. (bs ≡ fields_text l) × (length l ≤ suc n) × AllByRecursion (λ r. r < 2 ^ 8) l) z
     (f.0 ∙ ap (λ x. 32 ∷ (decimal p.0 ++ x)) r.0, omega (arith, r.1), (omega (arith, f.1), r.2))
 
-pub remains-complete : (n : ℕ) (rs : List ℕ) → length rs ≤ n → Bytes rs → remains_in n (fields_text rs) ≡ Some rs
+pub remains-complete : (n : ℕ) (rs : List ℕ) → length rs ≤ n → AllByRecursion (λ r. r < 2 ^ 8) rs → remains_in n (fields_text rs) ≡ Some rs
 unfolding remains_in
 remains-complete zero [] l b = refl
 remains-complete (suc n) [] l b = refl

@@ -74,7 +74,7 @@ Within (n ∷ ns) (m ∷ ms) = (n ≤ m) × Within ns ms
 
 pub then-some : {X Y : Type 0} (o : Option X) (f : X → Option Y) (y : Y) → then o f ≡ Some y → (x : X) × (o ≡ Some x) × (f x ≡ Some y)
 then-some (Some x) f y e = (x, refl, e)
-then-some None f y e = absurd (cc)
+then-some None f y e = absurd cc
 
 pub fields-sound : (ms bs ns : List ℕ) → AllByRecursion (λ m. m < 2 ^ 64) ms → fields_of ms bs ≡ Some ns → (bs ≡ fields_text ns) × Within ns ms
 fields-sound [] bs ns a e = search (rules, nil_from_length)

@@ -38,8 +38,8 @@ from-complete most n (c ∷ cs) d h =
 start : (most : ℕ) (ds : List ℕ) → 0 < length ds → (1 < length ds → get_or ds 0 0 ≡ 48 → ⊥) → numeral_from most 0 ds ≡ numeral most ds
 start most ds h z = search rules
 
-no_zero : (ds : List ℕ) (n : ℕ) → n < 2 ^ 64 → ds ≡ decimal n → 1 < length ds → get_or ds 0 0 ≡ 48 → ⊥
-no_zero ds n h e l z = search (rules, decimal_digit n, first_decimal n)
+no-zero : (ds : List ℕ) (n : ℕ) → n < 2 ^ 64 → ds ≡ decimal n → 1 < length ds → get_or ds 0 0 ≡ 48 → ⊥
+no-zero ds n h e l z = search (rules, decimal_digit n, first_decimal n)
 
 numeral-parts : (most n : ℕ) (ds : List ℕ) → numeral most ds ≡ Some n → (0 < length ds) × (get_or ds 0 0 ≡ 48 → length ds ≡ 1) × (numeral_from most 0 ds ≡ Some n)
 numeral-parts most n ds e = search rules
@@ -54,7 +54,7 @@ pub complete : (most n : ℕ) → most < 2 ^ 64 → n ≤ most → numeral most 
 complete most n h l =
     let k : n < 2 ^ 64 = omega arith in
     let v = digits_value-decimal own n k in
-    sym (start most (decimal n) (decimal_nonempty n k) (no_zero (decimal n) n k refl))
+    sym (start most (decimal n) (decimal_nonempty n k) (no-zero (decimal n) n k refl))
     ∙ from-complete most 0 (decimal n) (digits_decimal own n k) (omega arith) ∙ ap (λ m. Some m) v
 
 reads-number : (most : ℕ) (bs : List ℕ) (r : Option ℕ) → most < 2 ^ 64 → r ≡ numeral most bs → ReadsNumber most bs r

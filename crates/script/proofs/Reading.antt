@@ -61,8 +61,8 @@ kind-own : (k : Kind) → kind_at (code_of k) ≡ Some k
 kind-own k = search rules
 
 -- the text of an instruction of a kind
-text_of : (k : Kind) (i : Instruction) → i.kind ≡ code_of k → written (Instruct i) ≡ letter_of k ∷ fields_text (used k i)
-text_of k i e = ap (λ n. text_as (kind_at n) i) e ∙ ap (λ o. text_as o i) (kind-own k)
+text-of : (k : Kind) (i : Instruction) → i.kind ≡ code_of k → written (Instruct i) ≡ letter_of k ∷ fields_text (used k i)
+text-of k i e = ap (λ n. text_as (kind_at n) i) e ∙ ap (λ o. text_as o i) (kind-own k)
 
 -- what is read is well-formed, and the line is its text
 abbrev Good : List ℕ → Request → Type 0
@@ -74,7 +74,7 @@ filled-good k ns w =
     let zeros = filled-zeros k ns in
     let own = used-filled k ns w in (
       record { which = k; code = code; zeros = zeros; fit = fits k (filled k ns) code zeros (subst (λ l. Within l (widths k)) (sym own) w) },
-      text_of k (filled k ns) code ∙ ap (λ l. letter_of k ∷ fields_text l) own,
+      text-of k (filled k ns) code ∙ ap (λ l. letter_of k ∷ fields_text l) own,
     )
 
 abbrev pair : List ℕ → Position
@@ -96,7 +96,7 @@ made c ms bs f make q (Some ns) s h e =
     let p = s ns refl in
     let z : make (f ns) ≡ q = cc in
     subst (Good (c ∷ bs)) z (subst (λ l. Good (c ∷ l) (make (f ns))) (sym p.0) (h ns p.1))
-made c ms bs f make q None s h e = absurd (cc)
+made c ms bs f make q None s h e = absurd cc
 
 cut-good : (bs : List ℕ) (q : Request) → then (cut_of bs) (λ x. Some (Cut x)) ≡ Some q → Good (67 ∷ bs) q
 cut-good bs q e =
@@ -117,7 +117,7 @@ for-good c bs q false false true o x y w z e = subst (λ d. Good (d ∷ bs) q) (
 for-good c bs q false false false (Some k) x y w z e =
     let own : c ≡ letter_of k = search rules in
     subst (λ d. Good (d ∷ bs) q) (sym own) (made (letter_of k) (widths k) bs (filled k) (λ i. Instruct i) q _ (λ ns. fields-sound _ bs ns (narrow k)) (filled-good k) e)
-for-good c bs q false false false None x y w z e = absurd (cc)
+for-good c bs q false false false None x y w z e = absurd cc
 
 after-good : (bs : List ℕ) (q : Request) (w : Word) → Seen bs w → request_after w (after bs) ≡ Some q → Good bs q
 after-good bs q (letter c) s e = subst (λ l. Good l q) (sym s) (for-good c (after bs) q (eqb c 81) (eqb c 75) (eqb c 67) (kind_for c) refl refl refl refl e)
@@ -132,7 +132,7 @@ for-kind k bs = search rules
 
 kind-complete : (k : Kind) (i : Instruction) → i.kind ≡ code_of k → Zeros (unused k i) → Fit i → request_of (written (Instruct i)) ≡ Some (Instruct i)
 kind-complete k i e z f =
-    ap request_of (text_of k i e)
+    ap request_of (text-of k i e)
     ∙ at-letter (letter_of k) (fields_text (used k i)) (search rules)
     ∙ for-kind k (fields_text (used k i))
     ∙ ap (λ o. then (then o (λ ns. Some (filled k ns))) (λ i. Some (Instruct i))) (fields-complete (widths k) (used k i) (narrow k) (used-within k i f))
@@ -149,10 +149,10 @@ request-complete (Cash p) w =
     at-letter 75 (position_text p) refl ∙ ap (λ o. then (then o (λ ns. Some (pair ns))) (λ p. Some (Cash p))) (pair-complete p w)
 request-complete (Cut x) w = at-letter 67 (cut_text x) refl ∙ ap (λ o. then o (λ x. Some (Cut x))) (cut-complete x w)
 
-reads_as : (bs : List ℕ) (o : Option Request) → request_of bs ≡ o → ReadsLine bs (listed o)
-reads_as bs (Some q) e = after-good bs q (first_word bs) (seen bs) e
-reads_as bs None e = (refl, λ q w t. absurd (let z : None ≡ Some q = sym e ∙ ap request_of (sym t) ∙ request-complete q w in cc))
+reads-as : (bs : List ℕ) (o : Option Request) → request_of bs ≡ o → ReadsLine bs (listed o)
+reads-as bs (Some q) e = after-good bs q (first_word bs) (seen bs) e
+reads-as bs None e = (refl, λ q w t. absurd (let z : None ≡ Some q = sym e ∙ ap request_of (sym t) ∙ request-complete q w in cc))
 
 pub reads-line : (bs : List ℕ) → ReadsLine bs (request_in bs)
 unfolding request_in
-reads-line bs = reads_as bs (request_of bs) refl
+reads-line bs = reads-as bs (request_of bs) refl

@@ -8,7 +8,7 @@ use Rattle.instruction.specs.declared.Kind.{Kind}
 use Rattle.instruction.specs.declared.Kind.TheVariants.{Issue, PayIn, Enter, Earmark, Fund, Settle, Free}
 use Rattle.instruction.specs.declared.Instruction.{Instruction}
 use Rattle.instruction.specs.Kinds.{code_of, kind_at}
-use Rattle.instruction.specs.Layout.{Fit}
+use Rattle.instruction.specs.Layout.{on_trade, Fit}
 use Rattle.script.specs.declared.Position.{Position}
 use Rattle.script.specs.declared.Cut.{Cut as PowerCut}
 use Rattle.script.specs.declared.Request.{Request}
@@ -60,9 +60,6 @@ widths Earmark = 4294967295 ∷ []
 widths Fund = 4294967295 ∷ []
 widths Settle = 4294967295 ∷ []
 widths Free = 4294967295 ∷ []
-
-abbrev pub on_trade : Kind → ℕ → Instruction
-on_trade k t = record { kind = code_of k; account = 0; counterparty = 0; item = 0; currency = 0; trade = t; quantity = 0; amount = 0 }
 
 -- the instruction of a kind that has these numbers in the fields that the kind uses, and 0 in the others
 abbrev pub filled : Kind → List ℕ → Instruction

@@ -12,7 +12,7 @@ ghost use Rattle.std.specs.declared.num.TryFromIntError.{TryFromIntError};
 ghost use Rattle.script.specs.Words.{is_digit, word, first_word, word_length};
 ghost use Rattle.script.specs.Numerals.{numeral, ReadsNumber};
 ghost use Rattle.script.specs.Feeds.{in_line, first_line, after_line, lines_of, lines_left, Splits};
-ghost use Rattle.script.specs.Requests.{field_of, past, then, ended, on_trade, instruction_of, position_of, remains_in, cut_of, kind_for, request_of, request_in, ReadsLine};
+ghost use Rattle.script.specs.Requests.{field_of, past, then, ended, instruction_of, position_of, remains_in, cut_of, kind_for, request_of, request_in, ReadsLine};
 
 mod remains;
 

@@ -1,3 +1,4 @@
+pub mod RowLaws
 pub mod ListLaws
 pub mod SweepLaws
 pub mod Kind

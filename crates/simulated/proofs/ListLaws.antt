@@ -5,22 +5,22 @@ use Rattle.std.proofs.lemmas.List.{take_more, length_push, drop-drop}
 use Rattle.std.proofs.lemmas.Bool.{false≢true, ne_eqb, eq-eqb, or_left, or_right, or_from, or_cases, both_ways, cases_Bool, cases_eq, cond-true, cond-false, cond_both, ltb-true}
 use Rattle.std.specs.declared.alloc.Global.{Global}
 use Rattle.device.specs.Images.{blocks, row, put, of_row, EachRow}
-use Rattle.device.proofs.Rows.{row_before, row-full, each_again, each-as}
+use Rattle.device.proofs.Rows.{row-before, row-full, each-again, each-as}
 use Rattle.device.proofs.Meaning.{of-row-here}
 use Rattle.simulated.specs.Rows.{is_loose, synced}
 use Rattle.simulated.specs.Lists.{names, Names, Lists, Short, Longer, Noted, synced_if}
-use Rattle.simulated.specs.RowLaws.{synced-firm, synced-same}
+use Rattle.simulated.proofs.RowLaws.{synced-firm, synced-same}
 
 pub names-last : (xs : List ℕ) (y : ℕ) → names (xs ++ (y ∷ [])) y ≡ true
 names-last [] y = or_left (eqb y y) false (eq-eqb y y refl)
 names-last (x ∷ xs) y = or_right (eqb x y) (names (xs ++ (y ∷ [])) y) (names-last xs y)
 
-pub names_more : (xs : List ℕ) (y k : ℕ) → names xs k ≡ true → names (xs ++ (y ∷ [])) k ≡ true
-names_more [] y k h = absurd (false≢true h)
-names_more (x ∷ xs) y k h =
+pub names-more : (xs : List ℕ) (y k : ℕ) → names xs k ≡ true → names (xs ++ (y ∷ [])) k ≡ true
+names-more [] y k h = absurd (false≢true h)
+names-more (x ∷ xs) y k h =
     elim (or_cases (eqb x k) (names xs k) h) [
       | inl e ↦ or_left (eqb x k) (names (xs ++ (y ∷ [])) k) e
-      | inr e ↦ or_right (eqb x k) (names (xs ++ (y ∷ [])) k) (names_more xs y k e)
+      | inr e ↦ or_right (eqb x k) (names (xs ++ (y ∷ [])) k) (names-more xs y k e)
     ]
 
 pub names-other : (xs : List ℕ) (y k : ℕ) → k ≢ y → names (xs ++ (y ∷ [])) k ≡ names xs k
@@ -30,14 +30,14 @@ names-other (x ∷ xs) y k away = ap (λ (t : Bool). eqb x k || t) (names-other 
 -- a block that was not loose, at the end of a list
 pub longer-added : (old new : List ℕ) (loose : Bool) (b : ℕ) → loose ≡ false → new ≡ old ++ (b ∷ []) → Longer old new loose b
 longer-added old new loose b firm e = record {
-  kept = λ k h. rw e (names_more old b k h);
+  kept = λ k h. rw e (names-more old b k h);
   here = rw e (names-last old b);
   short = rw (e, firm) (omega (arith, length_push old b));
 }
 
 -- what a list says of a block that is loose
-pub lists_named : (list image : List ℕ) (b : ℕ) → Names list image → b < blocks 514 image → is_loose (row 514 image b) ≡ true → names list b ≡ true
-lists_named list image b h l e = h b (of-row-here 514 is_loose false image b l ∙ e)
+pub lists-named : (list image : List ℕ) (b : ℕ) → Names list image → b < blocks 514 image → is_loose (row 514 image b) ≡ true → names list b ≡ true
+lists-named list image b h l e = h b (of-row-here 514 is_loose false image b l ∙ e)
 
 -- and how it is known to say it of all
 pub lists-from : (list image : List ℕ) → ((b : ℕ) → b < blocks 514 image → is_loose (row 514 image b) ≡ true → names list b ≡ true) → Names list image
@@ -72,16 +72,16 @@ module _ (size : ℕ) (xs ys list : List ℕ) (i : ℕ) (within : i < length lis
       ap (λ (t : Bool). cond t (synced k (row 514 xs k)) (row 514 xs k))
       (sym (ap (λ (zs : List ℕ). names zs k) (take_more list i 0 within) ∙ names-other (take i list) (get_or list i 0) k away))
 
-  pub listed_more : (r : List ℕ) → get_or list i 0 < size → length r ≡ 514 → r ≡ synced 0 (row 514 ys (get_or list i 0)) → EachRow 514 (synced_if (take (i + 1) list)) size xs (put 514 ys (get_or list i 0) r)
-  listed_more r lt full e =
+  pub listed-more : (r : List ℕ) → get_or list i 0 < size → length r ≡ 514 → r ≡ synced 0 (row 514 ys (get_or list i 0)) → EachRow 514 (synced_if (take (i + 1) list)) size xs (put 514 ys (get_or list i 0) r)
+  listed-more r lt full e =
       let b = get_or list i 0 in
       let r₀ = row 514 xs b in
-      let wide : length r₀ ≡ 514 = row-full 514 xs b (omega (arith, row_before 514 b size lt)) in
+      let wide : length r₀ ≡ 514 = row-full 514 xs b (omega (arith, row-before 514 b size lt)) in
       let twice : synced 0 (synced_if (take i list) b r₀) ≡ synced b r₀ =
       cond_both (names (take i list) b) (synced b r₀) r₀ (λ zs. synced 0 zs ≡ synced b r₀)
       (λ _. synced-same 0 (synced b r₀) (synced-firm b r₀ wide)) (λ _. refl) in
       let named : names (take (i + 1) list) b ≡ true = ap (λ (zs : List ℕ). names zs b) (take_more list i 0 within) ∙ names-last (take i list) b in
-      each_again 514 (synced_if (take i list)) (synced_if (take (i + 1) list)) size xs ys b r h s lt full
+      each-again 514 (synced_if (take i list)) (synced_if (take (i + 1) list)) size xs ys b r h s lt full
       (e ∙ ap (synced 0) (s.rows b lt) ∙ twice ∙ sym (cond-true (names (take (i + 1) list) b) (synced b r₀) r₀ named)) also
 
   pub listed-past : size ≤ get_or list i 0 → EachRow 514 (synced_if (take (i + 1) list)) size xs ys
@@ -98,7 +98,7 @@ listed-all size xs ys list e h s =
       | inr f ↦
           cond-false (names list b) (synced b r) r f
           ∙ elim (cases_Bool (is_loose r)) [
-            | inl loose ↦ absurd (both_ways (names list b) f (lists_named list xs b h (omega arith) loose))
+            | inl loose ↦ absurd (both_ways (names list b) f (lists-named list xs b h (omega arith) loose))
             | inr firm ↦ sym (synced-same b r firm)
           ]
     ])

@@ -6,11 +6,11 @@ use Rattle.std.specs.Option.{option_copied, unwrap_or}
 use Rattle.std.specs.Slice.Iter.{iter_steps, iter_rest}
 use Rattle.std.proofs.lemmas.List.{drop_all, drop-drop, get_or_past}
 use Rattle.device.specs.Images.{blocks, row, put, of_row, EachRow}
-use Rattle.device.proofs.Rows.{room, row-full, row_same, row_other}
+use Rattle.device.proofs.Rows.{row-same, row-other, row-whole}
 use Rattle.device.proofs.Meaning.{of-row-here, of-row-same, of-row-none}
 use Rattle.simulated.specs.Rows.{is_loose, shown, synced, loose_below, restarted}
 use Rattle.simulated.specs.Lists.{Lists, Short}
-use Rattle.simulated.specs.RowLaws.{keeping-full, keeping-firm, synced-firm, synced-shown, revived-any}
+use Rattle.simulated.proofs.RowLaws.{keeping-full, keeping-firm, synced-firm, synced-shown, revived-any}
 
 pub loose-more : (xs : List ℕ) (b : ℕ) → loose_below xs (b + 1) ≡ cond (is_loose (row 514 xs b)) (loose_below xs b + 1) (loose_below xs b)
 loose-more xs b = ap (loose_below xs) (add-one b)
@@ -31,7 +31,7 @@ module _ (image : List ℕ) (b : ℕ) (r : List ℕ) (in-range : 514 * b + 514 �
   loose-below : (n : ℕ) → n ≤ b → loose_below (put 514 image b r) n ≡ loose_below image n
   loose-below zero h = refl
   loose-below (suc n) h =
-      let other = row_other 514 image b r in-range full n (λ e. omega arith) in
+      let other = row-other 514 image b r in-range full n (λ e. omega arith) in
       let before = loose-below n (omega arith) in
       ap (λ (m : ℕ). cond (is_loose (row 514 (put 514 image b r) n)) (m + 1) m) before
       ∙ ap (λ (s : List ℕ). cond (is_loose s) (loose_below image n + 1) (loose_below image n)) other
@@ -42,7 +42,7 @@ module _ (image : List ℕ) (b : ℕ) (r : List ℕ) (in-range : 514 * b + 514 �
       let image' = put 514 image b r in
       elim (cases_eq n b) [
         | inl same ↦
-            let here : is_loose (row 514 image' n) ≡ true = ap (λ (k : ℕ). is_loose (row 514 image' k)) same ∙ ap is_loose (row_same 514 image b r in-range full) ∙ loose in
+            let here : is_loose (row 514 image' n) ≡ true = ap (λ (k : ℕ). is_loose (row 514 image' k)) same ∙ ap is_loose (row-same 514 image b r in-range full) ∙ loose in
             let was : is_loose (row 514 image n) ≡ is_loose (row 514 image b) = ap (λ (k : ℕ). is_loose (row 514 image k)) same in
             cond-true (is_loose (row 514 image' n)) (loose_below image' n + 1) (loose_below image' n) here
             ∙ ap (λ (m : ℕ). m + 1) (loose-below n (omega arith))
@@ -52,7 +52,7 @@ module _ (image : List ℕ) (b : ℕ) (r : List ℕ) (in-range : 514 * b + 514 �
             ]
         | inr away ↦
             let past = loose-put n (omega arith) in
-            ap (λ (s : List ℕ). cond (is_loose s) (loose_below image' n + 1) (loose_below image' n)) (row_other 514 image b r in-range full n away)
+            ap (λ (s : List ℕ). cond (is_loose s) (loose_below image' n + 1) (loose_below image' n)) (row-other 514 image b r in-range full n away)
             ∙ ap (λ (m : ℕ). cond (is_loose (row 514 image n)) (m + 1) m) past
             ∙ elim (cases_Bool (is_loose (row 514 image b))) [
               | inl t ↦ rw t refl
@@ -71,19 +71,13 @@ short-none None n h = tt
 short-none (Some v) n h = omega (arith, ap length h)
 
 module _ (xs ys : List ℕ) (s : EachRow 514 synced (blocks 514 xs) xs ys) where
-  full_at : (b : ℕ) → b < blocks 514 xs → length (row 514 xs b) ≡ 514
-  full_at b h = row-full 514 xs b (room 514 xs b h)
-
   pub sync-holds : (k : ℕ) → of_row 514 shown None ys k ≡ of_row 514 shown None xs k
-  sync-holds k = of-row-same 514 shown None xs ys k s.len (λ h. ap shown (s.rows k h) ∙ synced-shown k (row 514 xs k) (full_at k h))
+  sync-holds k = of-row-same 514 shown None xs ys k s.len (λ h. ap shown (s.rows k h) ∙ synced-shown k (row 514 xs k) (row-whole 514 xs k h))
 
   pub sync-firm : (k : ℕ) → of_row 514 is_loose false ys k ≡ false
-  sync-firm k = of-row-none 514 is_loose false xs ys k s.len (λ h. ap is_loose (s.rows k h) ∙ synced-firm k (row 514 xs k) (full_at k h))
+  sync-firm k = of-row-none 514 is_loose false xs ys k s.len (λ h. ap is_loose (s.rows k h) ∙ synced-firm k (row 514 xs k) (row-whole 514 xs k h))
 
 module _ (xs ys rem : List ℕ) (s : EachRow 514 (restarted xs rem) (blocks 514 xs) xs ys) where
-  whole-at : (b : ℕ) → b < blocks 514 xs → length (row 514 xs b) ≡ 514
-  whole-at b h = row-full 514 xs b (room 514 xs b h)
-
   pub restart-holds : (k : ℕ) → of_row 514 is_loose false xs k ≡ false → of_row 514 shown None ys k ≡ of_row 514 shown None xs k
   restart-holds k firm =
       of-row-same 514 shown None xs ys k s.len
@@ -92,7 +86,7 @@ module _ (xs ys rem : List ℕ) (s : EachRow 514 (restarted xs rem) (blocks 514 
       ap shown (s.rows k h ∙ cond-false (is_loose (row 514 xs k)) _ _ f))
 
   pub restart-firm : (k : ℕ) → of_row 514 is_loose false ys k ≡ false
-  restart-firm k = of-row-none 514 is_loose false xs ys k s.len (λ h. ap is_loose (s.rows k h) ∙ restarted-firm xs rem k (row 514 xs k) (whole-at k h))
+  restart-firm k = of-row-none 514 is_loose false xs ys k s.len (λ h. ap is_loose (s.rows k h) ∙ restarted-firm xs rem k (row 514 xs k) (row-whole 514 xs k h))
 
 -- the next byte of the remains, or 0 past their end
 pub next-byte : (s t : Iter ℕ) (r : Option (Bor ℕ)) → iter_steps s r t → unwrap_or (option_copied r) 0 ≡ get_or (iter_rest s) 0 0

@@ -16,7 +16,6 @@ pub(crate) struct LooseBlocks {
     list: Option<Vec<u32>>,
 }
 
-// Lists the loose blocks of an image.
 fn list_loose(rows: &Imaged<ROW>) -> Result<Vec<u32>, AllocError>
     ensures listed { IfOk result (λ v. Names v.items rows.now.image.items) }
     ensures short { IfOk result (λ v. length v.items ≤ loose_below rows.now.image.items rows.now.size) }

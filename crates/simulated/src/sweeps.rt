@@ -10,7 +10,6 @@ use crate::rows::{ROW, restart_row, sync_row};
 use device::Imaged;
 use std::slice::Iter;
 
-// Syncs the row of a block.
 fn sync_block(rows: &mut Imaged<ROW>, block: u32)
     requires { block < rows.old.size }
     ensures image { let xs = rows.old.image.items in rows.new.image.items ≡ put 514 xs block (synced 0 (row 514 xs block)) }

@@ -13,7 +13,8 @@ use Rattle.book.proofs.Totals.{total-credit}
 use Rattle.balances.specs.Rows.{balances_kind}
 use Rattle.lots.specs.Owners.{lots_kind}
 use Rattle.journal.specs.Blocks.{zeros, is_mark}
-use Rattle.trials.specs.Marked.{on_trade, entering, MarkedTrials}
+use Rattle.instruction.specs.Layout.{on_trade}
+use Rattle.trials.specs.Marked.{entering, MarkedTrials}
 
 nothing-in-all : (i : ℕ) → total nothing i ≡ 0
 nothing-in-all i = up_to-zero 64 (λ a. 0) (λ a. refl)

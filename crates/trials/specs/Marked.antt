@@ -1,11 +1,10 @@
 -- The trials whose results are proved, a row each. Assumes nothing.
 use Rattle.std.specs.Prelude.{◌≡◌, ℕ, ◌<◌, false, List, ◌∷◌, ◌++◌, replicate}
 use Rattle.answers.specs.Numbers.{answer_number}
-use Rattle.instruction.specs.declared.Kind.{Kind}
 use Rattle.instruction.specs.declared.Kind.TheVariants.{Enter, Earmark, Settle}
 use Rattle.instruction.specs.declared.Instruction.{Instruction}
 use Rattle.instruction.specs.Kinds.{code_of}
-use Rattle.instruction.specs.Layout.{bytes_of}
+use Rattle.instruction.specs.Layout.{on_trade, bytes_of}
 use Rattle.book.specs.Holdings.{nothing, crediting, blocking, apply}
 use Rattle.book.specs.Rulings.{ruling}
 use Rattle.balances.specs.Rows.{balances_kind}
@@ -14,10 +13,6 @@ use Rattle.rulebook.specs.declared.State.TheVariants.{Earmarked}
 use Rattle.rulebook.specs.Rules.{Rulebook, Standing, empty, answer}
 use Rattle.journal.specs.Blocks.{zeros, mark_bytes, is_mark}
 use Rattle.trials.specs.declared.Outcomes.{Outcomes}
-
--- an instruction of a kind that uses its trade only
-abbrev pub on_trade : Kind → ℕ → Instruction
-on_trade k t = record { kind = code_of k; account = 0; counterparty = 0; item = 0; currency = 0; trade = t; quantity = 0; amount = 0 }
 
 abbrev pub entering : ℕ → ℕ → ℕ → ℕ → ℕ → ℕ → ℕ → Instruction
 entering seller buyer item currency trade quantity amount =

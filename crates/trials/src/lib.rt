@@ -8,7 +8,7 @@ ghost use Rattle.book.specs.Rulings.{ruling};
 ghost use Rattle.lots.specs.Owners.{lots_kind};
 ghost use Rattle.trials.specs.Marked.{earmark7, expected, MarkedTrials};
 
-use answers::answer_number;
+use answers::{answer_number, fault_number};
 use balances::Balances;
 use book::Book;
 use instruction::{Instruction, Kind};
@@ -58,11 +58,7 @@ fn credit_of(quantity: u64) -> u8
 fn earmark_bytes() -> [u8; 32]
     ensures { result ≡ earmark7 }
 {
-    let x = Instruction {
-        trade: 7,
-        ..Instruction::of_kind(Kind::Earmark)
-    };
-    x.to_bytes()
+    Instruction::on_trade(Kind::Earmark, 7).to_bytes()
 }
 
 fn same_parties() -> u8
@@ -77,11 +73,7 @@ fn same_parties() -> u8
         amount: 5000,
         ..Instruction::of_kind(Kind::Enter)
     };
-    // Of a fault, where `answer_number` takes a refusal.
-    match ledger.judge(&x) {
-        Ok(()) => 0,
-        Err(fault) => fault.number(),
-    }
+    fault_number(ledger.judge(&x))
 }
 
 // Makes each trial that a fresh book, ledger, instruction or mark can show, and stands for the theorem of all of them.

@@ -15,6 +15,7 @@ use std::sync::Mutex;
 
 use twin::exam::{self, Exam};
 use twin::ledger::TradeState;
+use twin::rng::Rng;
 use twin::script;
 
 fn main() -> ExitCode {
@@ -153,8 +154,7 @@ fn run(program: &str, script: &[u8]) -> Result<Vec<u8>, String> {
 
 /// The script of a seed.
 fn generate(seed: u64) -> Vec<u8> {
-    let mut rng = Rng(seed);
-    rng.next();
+    let mut rng = Rng::new(seed);
     let (style, lines) = match rng.below(1000) {
         0..=299 => (LIVELY, rng.between(10, 150)),
         300..=449 => (CUTS, rng.between(3, 120)),
@@ -635,48 +635,5 @@ impl Writer {
                 _ => self.rng.pick(b"0123456789      "),
             })
             .collect()
-    }
-}
-
-/// The generator splitmix64.
-struct Rng(u64);
-
-impl Rng {
-    fn next(&mut self) -> u64 {
-        self.0 = self.0.wrapping_add(0x9E37_79B9_7F4A_7C15);
-        let mut mixed = self.0;
-        mixed = (mixed ^ (mixed >> 30)).wrapping_mul(0xBF58_476D_1CE4_E5B9);
-        mixed = (mixed ^ (mixed >> 27)).wrapping_mul(0x94D0_49BB_1331_11EB);
-        mixed ^ (mixed >> 31)
-    }
-
-    /// A number below the limit, which is not 0.
-    fn below(&mut self, limit: u64) -> u64 {
-        self.next() % limit
-    }
-
-    fn between(&mut self, least: u64, most: u64) -> u64 {
-        least + self.below(most - least + 1)
-    }
-
-    fn chance(&mut self, percent: u64) -> bool {
-        self.below(100) < percent
-    }
-
-    fn pick<T: Copy>(&mut self, choices: &[T]) -> T {
-        choices[self.below(choices.len() as u64) as usize]
-    }
-
-    /// A choice by its weight.
-    fn weighted(&mut self, weights: &[u64]) -> usize {
-        let mut drawn = self.below(weights.iter().sum());
-        weights
-            .iter()
-            .position(|weight| {
-                let here = drawn < *weight;
-                drawn = drawn.wrapping_sub(*weight);
-                here
-            })
-            .expect("the draw is below the sum")
     }
 }

@@ -1,13 +1,13 @@
 use Rattle.std.proofs.Common.{◌≡◌, ◌<◌, length, Some, None, rules}
 use Rattle.script.specs.Requests.{field_of, past}
-use Rattle.script.proofs.Cuts.{going-more, going-end, going-no_field, going-full}
+use Rattle.script.proofs.Cuts.{going-more, going-end, going-no-field, going-full}
 use Rattle.script.proofs.read_remains.Goals as goal
 
 pub returns-in_err-field : goal.returns-in_err-field
 returns-in_err-field c =
     let left : 0 < length c.loop-remains.tokens.rest.now = search rules in
     let none : field_of 255 c.loop-remains.tokens.rest.now ≡ None = search rules in
-    let e = going-no_field _ _ _ c.loop-remains.invariant left none in
+    let e = going-no-field _ _ _ c.loop-remains.invariant left none in
     search (rules, e)
 
 pub loop-remains-preserved : goal.loop-remains-preserved

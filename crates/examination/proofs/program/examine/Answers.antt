@@ -6,7 +6,7 @@ use Rattle.examination.proofs.program.examine.Goals as goal
 pub returns-in-Ok-clause-text : goal.returns-in-Ok-clause-text
 returns-in-Ok-clause-text c =
     IfOk-weaker c.key_text.result _ _
-    (λ text e. prints-key c.in_ok-device.device _ _ c.args.script.now (vec_items c.in-Ok.answers) _ (string_bytes text) c.in_ok-device.ensures c.new.ensures c.new-2.ensures c.in-Ok.ensures c.as_slice.ensures.value e)
+    (λ text e. prints-key c.in_ok-device.device _ _ c.args.script.now (vec_items c.in-Ok.answers) _ (string_bytes text) c.in_ok-device.ensures c.in_ok-register.ensures c.in_ok-cash.ensures c.in-Ok.ensures c.as_slice.ensures.value e)
     c.key_text.ensures
 
 pub returns-in-Err-Refused-clause-text : goal.returns-in-Err-Refused-clause-text

@@ -1,11 +1,11 @@
 use Rattle.std.proofs.Common.{◌≡◌, refl, arith}
 use Rattle.device.proofs.Answered.{write-refused}
-use Rattle.journal.proofs.Blanks.{none-blank, one-more, cut_short, all-blank}
-use Rattle.journal.proofs.Tracks.{no_marks, mark-more, marks-cut, marks-synced}
+use Rattle.journal.proofs.Blanks.{none-blank, one-more, cut-short, all-blank}
+use Rattle.journal.proofs.Tracks.{no-marks, mark-more, marks-cut, marks-synced}
 use Rattle.journal.proofs.formatting.blank_marks.Goals as goal
 
 pub returns-in_err-write-clause-after : goal.returns-in_err-write-clause-after
-returns-in_err-write-clause-after g c = cut_short c.loop-entry.invariant.0 c.loop-entry-test.true c.requires.within c.in_err-write.ensures.call
+returns-in_err-write-clause-after g c = cut-short c.loop-entry.invariant.0 c.loop-entry-test.true c.requires.within c.in_err-write.ensures.call
 
 pub returns-in_err-write-clause-trace : goal.returns-in_err-write-clause-trace
 returns-in_err-write-clause-trace g c =
@@ -15,7 +15,7 @@ returns-in_err-write-clause-trace g c =
     marks-cut g.D.Device.makes _ _ _ k c.args.pairs _ (omega (arith, i.0.left, none)) c.loop-entry-test.true i.1 c.write.ensures.kind
 
 pub loop-entry-init : goal.loop-entry-init
-loop-entry-init g c = (none-blank _, rw no_marks refl)
+loop-entry-init g c = (none-blank _, rw no-marks refl)
 
 pub loop-entry-preserved : goal.loop-entry-preserved
 loop-entry-preserved g c =

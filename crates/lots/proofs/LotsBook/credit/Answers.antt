@@ -4,7 +4,7 @@ use Rattle.std.proofs.lemmas.Bool.{lt-ltb}
 use Rattle.book.proofs.Accepted.{credit-fits}
 use Rattle.lots.specs.Owners.{lots_kind}
 use Rattle.lots.specs.Meaning.{meaning}
-use Rattle.lots.specs.Deeds.{owned-set, credit-done}
+use Rattle.lots.proofs.Deeds.{owned-set, credit-done}
 use Rattle.lots.proofs.LotsBook.credit.Goals as goal
 
 -- whatever the lot becomes, its owner is the account

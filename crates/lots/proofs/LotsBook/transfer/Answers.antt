@@ -4,7 +4,7 @@ use Rattle.book.specs.Rulings.{holding_at}
 use Rattle.book.proofs.Accepted.{asked-part}
 use Rattle.lots.specs.Owners.{lots_kind}
 use Rattle.lots.specs.Meaning.{meaning}
-use Rattle.lots.specs.Deeds.{move-done}
+use Rattle.lots.proofs.Deeds.{move-done}
 use Rattle.lots.proofs.LotsBook.transfer.Goals as goal
 
 pub returns : goal.returns

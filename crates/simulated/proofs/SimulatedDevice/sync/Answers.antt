@@ -1,7 +1,7 @@
 use Rattle.std.proofs.Common.{ℕ, ◌-◌, List, vec_items, ap, ◌∙◌, subst}
 use Rattle.device.specs.Calls.{Answer, if_ok}
 use Rattle.device.specs.Images.{blocks, EachRow}
-use Rattle.device.proofs.Rows.{same_blocks}
+use Rattle.device.proofs.Rows.{same-blocks}
 use Rattle.simulated.specs.Rows.{synced, ImageSynced}
 use Rattle.simulated.proofs.SweepLaws.{lists-none, short-none, sync-holds, sync-firm}
 use Rattle.simulated.proofs.SimulatedDevice.sync.Goals as goal
@@ -30,7 +30,7 @@ returns c =
       call = record {
         answer = answer;
         left = left;
-        size = same_blocks 514 xs ys s.len;
+        size = same-blocks 514 xs ys s.len;
         holds = sync-holds xs ys s;
         loose = sync-firm xs ys s;
       };

@@ -1,7 +1,7 @@
 use Rattle.std.proofs.Common.{◌≡◌, ◌+◌, ℕ, List, Bool, cond, sym, ap, ◌∙◌, arith}
 use Rattle.device.specs.Images.{row, put}
 use Rattle.device.proofs.Answered.{write-passed}
-use Rattle.device.proofs.Rows.{room, row-full}
+use Rattle.device.proofs.Rows.{room, row-whole}
 use Rattle.simulated.specs.Rows.{is_loose, loose_below, written}
 use Rattle.simulated.specs.RowLaws.{written-full, written-loose}
 use Rattle.simulated.proofs.ListLaws.{lists-noted, short-noted}
@@ -17,7 +17,7 @@ invariant_of-self-2 c =
     let bytes = c.args.bytes.now in
     let call = c.in_ok-write.ensures.call in
     let here = write-passed call in
-    let wide = row-full 514 xs b (room 514 xs b here.in-range) in
+    let wide = row-whole 514 xs b here.in-range in
     let r = written (row 514 xs b) bytes in
     let n = c.write.new.self.size in
     let size : n ≡ d.rows.size = c.write.new.self.sized ∙ call.elsewhere.size ∙ sym d.rows.sized in

@@ -1,6 +1,6 @@
 use Rattle.std.proofs.Common.{ℕ, subst, rules}
 use Rattle.device.specs.Images.{EachRow}
-use Rattle.device.proofs.Rows.{same_blocks}
+use Rattle.device.proofs.Rows.{same-blocks}
 use Rattle.simulated.specs.Rows.{restarted}
 use Rattle.simulated.proofs.SweepLaws.{lists-none, short-none, restart-holds, restart-firm}
 use Rattle.simulated.proofs.SimulatedPoweredDevice.restart.Goals as goal
@@ -25,7 +25,7 @@ returns c =
     let s = subst (λ (n : ℕ). EachRow 514 (restarted xs rem) n xs ys) d.sized c.restart_all.ensures.image in
     record {
       call = record {
-        size = same_blocks 514 xs ys s.len;
+        size = same-blocks 514 xs ys s.len;
         holds = restart-holds xs ys rem s;
         loose = restart-firm xs ys rem s;
         left = search rules;

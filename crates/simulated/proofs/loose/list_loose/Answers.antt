@@ -5,7 +5,7 @@ use Rattle.std.proofs.lemmas.Bool.{false≢true, cases_eq, cond-true, cond-false
 use Rattle.device.specs.Images.{row}
 use Rattle.simulated.specs.Rows.{is_loose, loose_below}
 use Rattle.simulated.specs.Lists.{names}
-use Rattle.simulated.proofs.ListLaws.{names-last, names_more, lists-from, chunk-row}
+use Rattle.simulated.proofs.ListLaws.{names-last, names-more, lists-from, chunk-row}
 use Rattle.simulated.proofs.SweepLaws.{loose-more}
 use Rattle.simulated.proofs.loose.list_loose.Goals as goal
 use Rattle.simulated.proofs.loose.list_loose.Goals.{then-row_is_loose+in_ok-push, else-row_is_loose}
@@ -32,7 +32,7 @@ loop-b-preserved c =
                 subst (λ (zs : List ℕ). names zs k ≡ true) (sym is)
                 (elim (cases_eq k b) [
                   | inl same ↦ subst (λ (j : ℕ). names (old ++ (b ∷ [])) j ≡ true) (sym same) (names-last old b)
-                  | inr away ↦ names_more old b k (inv.0 k (omega arith) e)
+                  | inr away ↦ names-more old b k (inv.0 k (omega arith) e)
                 ]),
             omega (arith, ap length is, length_push old b, more, inv.1),
           )

@@ -1,4 +1,4 @@
-use Rattle.simulated.specs.RowLaws.{keeping-is}
+use Rattle.simulated.proofs.RowLaws.{keeping-is}
 use Rattle.simulated.proofs.rows.keep.Goals as goal
 
 pub returns : goal.returns

@@ -1,6 +1,6 @@
 use Rattle.std.proofs.Common.{ℕ, sym, ap, ◌∙◌, arith}
 use Rattle.simulated.specs.Rows.{revived}
-use Rattle.simulated.specs.RowLaws.{revived-fill, revived-lost}
+use Rattle.simulated.proofs.RowLaws.{revived-fill, revived-lost}
 use Rattle.simulated.proofs.rows.revive.Goals as goal
 
 pub returns-in-3-2 : goal.returns-in-3-2

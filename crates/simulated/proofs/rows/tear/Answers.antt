@@ -1,16 +1,16 @@
 use Rattle.std.proofs.Common.{◌≡◌, ℕ, List, ◌++◌, length, take, drop, ap, ◌∙◌, arith, length-take}
 use Rattle.simulated.specs.Rows.{newer}
-use Rattle.simulated.specs.RowLaws.{kept_full, newer-full}
+use Rattle.simulated.specs.RowLaws.{kept-full, newer-full}
 use Rattle.simulated.proofs.rows.tear.Goals as goal
 
 pub slice_bounds-bytes-end : goal.slice_bounds-bytes-end
-slice_bounds-bytes-end c = omega (arith, ap length c.kept_bytes.ensures, kept_full c.args.row.now c.told-row)
+slice_bounds-bytes-end c = omega (arith, ap length c.kept_bytes.ensures, kept-full c.args.row.now c.told-row)
 
 pub slice_bounds-copy_from_slice-end : goal.slice_bounds-copy_from_slice-end
-slice_bounds-copy_from_slice-end c = omega (arith, ap length c.kept_bytes.ensures, kept_full c.args.row.now c.told-row, length-take 128 c.kept_bytes.result.now)
+slice_bounds-copy_from_slice-end c = omega (arith, ap length c.kept_bytes.ensures, kept-full c.args.row.now c.told-row, length-take 128 c.kept_bytes.result.now)
 
 pub copy_from_slice-requires : goal.copy_from_slice-requires
-copy_from_slice-requires c = simp length-take (omega (arith, ap length c.kept_bytes.ensures, ap length c.newer_bytes.ensures, kept_full c.args.row.now c.told-row, newer-full c.args.row.now c.told-row))
+copy_from_slice-requires c = simp length-take (omega (arith, ap length c.kept_bytes.ensures, ap length c.newer_bytes.ensures, kept-full c.args.row.now c.told-row, newer-full c.args.row.now c.told-row))
 
 pub returns : goal.returns
 returns c =

@@ -4,9 +4,9 @@ use Rattle.std.specs.Slice.Iter.{iter_rest}
 use Rattle.device.specs.Bytes.{Bytes}
 use Rattle.device.proofs.Splices.{splice-bytes}
 use Rattle.device.specs.Images.{blocks, row}
-use Rattle.device.proofs.Rows.{room, row-full, lent-put, slice-row}
+use Rattle.device.proofs.Rows.{lent-put, slice-row, row-whole}
 use Rattle.simulated.specs.Rows.{is_loose, revived}
-use Rattle.simulated.specs.RowLaws.{revived-any, keeping-full}
+use Rattle.simulated.proofs.RowLaws.{revived-any, keeping-full}
 use Rattle.simulated.proofs.sweeps.restart_block.Goals as goal
 
 pub returns-clause-image : goal.returns-clause-image
@@ -18,7 +18,7 @@ returns-clause-image c =
     let v = get_or (iter_rest c.args.remains.now) 0 0 in
     let in-range : b < blocks 514 xs = omega (arith, c.requires, d.sized) in
     let was = row 514 xs b in
-    let wide = row-full 514 xs b (room 514 xs b in-range) in
+    let wide = row-whole 514 xs b in-range in
     let r = cond (is_loose was) (revived v was) was in
     let full : length r ≡ 514 = cond_both (is_loose was) _ _ (λ zs. length zs ≡ 514)
     (λ _. revived-any (λ zs. length zs ≡ 514) v was wide (λ flag bytes n. keeping-full was bytes flag wide n)) (λ _. wide) in
@@ -39,5 +39,5 @@ invariant_of-rows-clause-bytes c =
     let new = c.restart_row.new.row in
     let in-range : b < blocks 514 xs = omega (arith, c.requires, d.sized) in
     let seen = slice-row 514 xs c.as_mut_slice-image.result.now b c.as_mut_slice-image.ensures.value in
-    let full : length new ≡ 514 = c.restart_row.auto.row ∙ ap length seen ∙ row-full 514 xs b (room 514 xs b in-range) in
+    let full : length new ≡ 514 = c.restart_row.auto.row ∙ ap length seen ∙ row-whole 514 xs b in-range in
     subst Bytes (sym (lent-put 514 d.image c.as_mut_slice-image.result.now b new new in-range c.as_mut_slice-image.ensures.value refl full)) (splice-bytes xs (514 * b) new d.bytes c.restart_row.ensures.bytes)

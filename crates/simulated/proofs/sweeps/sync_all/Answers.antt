@@ -1,8 +1,8 @@
 use Rattle.std.proofs.Common.{◌+◌, List, ℕ, refl, sym, ◌∙◌, subst, arith}
 use Rattle.device.specs.Images.{row, EachRow}
-use Rattle.device.proofs.Rows.{room, row-full, each_more}
+use Rattle.device.proofs.Rows.{room, row-full, each-more}
 use Rattle.simulated.specs.Rows.{synced}
-use Rattle.simulated.specs.RowLaws.{synced-full}
+use Rattle.simulated.proofs.RowLaws.{synced-full}
 use Rattle.simulated.proofs.sweeps.sync_all.Goals as goal
 
 pub loop-b-preserved : goal.loop-b-preserved
@@ -14,7 +14,7 @@ loop-b-preserved c =
     let inv = c.loop-b.invariant in
     let fits = room 514 xs b (omega (arith, d.sized)) in
     let full = synced-full b (row 514 old b) (row-full 514 old b (omega (arith, fits, inv.0.len))) in (
-      subst (λ (zs : List ℕ). EachRow 514 synced (b + 1) xs zs) (sym c.sync_block.ensures.image) (each_more 514 synced b xs old (synced b (row 514 old b)) fits inv.0 full refl),
+      subst (λ (zs : List ℕ). EachRow 514 synced (b + 1) xs zs) (sym c.sync_block.ensures.image) (each-more 514 synced b xs old (synced b (row 514 old b)) fits inv.0 full refl),
       c.sync_block.ensures.size ∙ inv.1,
       c.sync_block.ensures.left ∙ inv.2,
     )

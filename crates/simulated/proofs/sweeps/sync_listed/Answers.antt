@@ -1,11 +1,11 @@
 use Rattle.std.proofs.Common.{ℕ, ◌+◌, ◌*◌, ◌<◌, ◌≤◌, List, length, get_or, take, sym, refl, ap, ◌∙◌, subst, arith, div-mul-le_self}
 use Rattle.std.proofs.lemmas.List.{take_all}
 use Rattle.device.specs.Images.{row, EachRow}
-use Rattle.device.proofs.Rows.{row_before, row-full}
+use Rattle.device.proofs.Rows.{row-before, row-full}
 use Rattle.simulated.specs.Rows.{synced}
 use Rattle.simulated.specs.Lists.{synced_if}
-use Rattle.simulated.specs.RowLaws.{synced-full}
-use Rattle.simulated.proofs.ListLaws.{listed_more, listed-past}
+use Rattle.simulated.proofs.RowLaws.{synced-full}
+use Rattle.simulated.proofs.ListLaws.{listed-more, listed-past}
 use Rattle.simulated.proofs.sweeps.sync_listed.Goals as goal
 use Rattle.simulated.proofs.sweeps.sync_listed.Goals.{then-b-rows, else-b-rows}
 
@@ -24,9 +24,9 @@ loop-b-preserved c =
     elim c.if-b-rows.branch [
       | then-b-rows w ↦
           let lt : get_or c.args.list.now c.loop-b.b-index 0 < c.args.rows.now.size = omega (arith, w.if-b-rows.true, inv.1) in
-          let full = synced-full 0 (row 514 old b) (row-full 514 old b (omega (arith, inv.0.len, fits, row_before 514 b size lt))) in (
+          let full = synced-full 0 (row 514 old b) (row-full 514 old b (omega (arith, inv.0.len, fits, row-before 514 b size lt))) in (
             subst (λ (zs : List ℕ). EachRow 514 (synced_if (take (i + 1) list)) size xs zs) (sym (ap (λ r. r.image.items) w.rows-is ∙ w.sync_block.ensures.image))
-                (listed_more size xs old list i within fits inv.0 (synced 0 (row 514 old b)) lt full refl),
+                (listed-more size xs old list i within fits inv.0 (synced 0 (row 514 old b)) lt full refl),
             ap (λ r. r.size) w.rows-is ∙ w.sync_block.ensures.size ∙ inv.1,
             ap (λ r. r.left) w.rows-is ∙ w.sync_block.ensures.left ∙ inv.2,
           )

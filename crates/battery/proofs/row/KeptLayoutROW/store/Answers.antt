@@ -1,4 +1,4 @@
-use Rattle.battery.specs.RowLaws.{stored}
+use Rattle.battery.proofs.Stored.{stored}
 use Rattle.battery.proofs.row.KeptLayoutROW.store.Goals as goal
 
 pub returns : goal.returns

@@ -1,12 +1,12 @@
 use Rattle.std.proofs.Common.{[], sym, ap, subst, rules}
 use Rattle.ledger.specs.View.{rulebook}
-use Rattle.depository.specs.Orders.{to_instruct, to_ask, order}
+use Rattle.depository.specs.Orders.{to_instruct, to_restart, to_ask, order}
 use Rattle.depository.specs.Moments.{moment_of}
 use Rattle.depository.specs.Handling.{device_of}
 use Rattle.depository.specs.Steps.{Path, done}
 use Rattle.depository.proofs.Runs.{next-call, next-order, asked-only, all-calls, means-it, sound}
 use Rattle.depository.proofs.condition.Depository.run.Goals as goal
-use Rattle.depository.proofs.condition.Depository.run.Goals.{in-Instruct, in-Ask, in_default}
+use Rattle.depository.proofs.condition.Depository.run.Goals.{in-Instruct, in-Restart, in-Ask, in_default}
 
 pub loop-call-init : goal.loop-call-init
 loop-call-init g c =
@@ -28,6 +28,14 @@ loop-call-preserved g c =
             rw w.depository-is
                 (next-order g.D.Device.makes g.D.Device.medium (rulebook g.R.Book.fixed g.C.Book.fixed) g.D.PoweredDevice.most _ c.args.calls.now c.loop-call.call-index (to_instruct w.in-Instruct.x) w.instruct-reply.result c.loop-call-test.true i.2 (ap order w.in-Instruct.is) e.does
                 (sound g.met.D.Device.bounds before) e.fit e.device (means-it w.instruct-reply.new.self.condition) (rw w.reply-is at p.items)),
+          )
+      | in-Restart w ↦
+          let e = w.restart-reply.ensures in (
+            search rules,
+            search rules,
+            rw w.depository-is
+                (next-order g.D.Device.makes g.D.Device.medium (rulebook g.R.Book.fixed g.C.Book.fixed) g.D.PoweredDevice.most _ c.args.calls.now c.loop-call.call-index (to_restart w.in-Restart.calls w.in-Restart.remains.now) w.restart-reply.result c.loop-call-test.true i.2 (ap order w.in-Restart.is) e.does
+                (sound g.met.D.Device.bounds before) tt e.device (means-it w.restart-reply.new.self.condition) (rw w.reply-is at p.items)),
           )
       | in-Ask w ↦ (
         search rules,

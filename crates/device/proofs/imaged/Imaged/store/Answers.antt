@@ -1,6 +1,6 @@
 use Rattle.std.proofs.Common.{◌≡◌, ◌<◌, ap, ◌∙◌, List, ℕ, arith}
 use Rattle.device.specs.Images.{blocks, row}
-use Rattle.device.proofs.Rows.{room, row-full, lent-put, slice-row}
+use Rattle.device.proofs.Rows.{lent-put, slice-row, row-whole}
 use Rattle.device.proofs.imaged.Imaged.store.Goals as goal
 
 pub returns-clause-image : goal.returns-clause-image
@@ -14,4 +14,4 @@ returns-clause-image g c =
     let is : new ≡ g.L.Layout.written (row w d.image.items b) c.args.bytes.now =
     c.store_row.ensures ∙ ap (λ (r : List ℕ). g.L.Layout.written r c.args.bytes.now) (slice-row w d.image.items c.as_mut_slice-image.result.now b lent) in
     lent-put w d.image c.as_mut_slice-image.result.now b new (g.L.Layout.written (row w d.image.items b) c.args.bytes.now) in-range lent is
-    (g.met.L.Layout.fills (row w d.image.items b) c.args.bytes.now (row-full w d.image.items b (room w d.image.items b in-range)) c.told-bytes)
+    (g.met.L.Layout.fills (row w d.image.items b) c.args.bytes.now (row-whole w d.image.items b in-range) c.told-bytes)

@@ -1,7 +1,7 @@
 use Rattle.std.proofs.Common.{◌≡◌, length}
 use Rattle.device.specs.Images.{blocks, row}
 use Rattle.device.proofs.Answered.{passed, admitted-as}
-use Rattle.device.proofs.Rows.{room, row-full}
+use Rattle.device.proofs.Rows.{row-whole}
 use Rattle.device.proofs.Meaning.{write-row}
 use Rattle.device.proofs.imaged.Imaged.write.Goals as goal
 
@@ -14,7 +14,7 @@ returns-clause-call g c =
     let bytes = c.args.bytes.now in
     let ok = admitted-as d.size (blocks w xs) d.left b (length bytes) d.sized c.in_ok-admit.ensures in
     let here = passed (blocks w xs) d.left b (length bytes) ok in
-    let wide = row-full w xs b (room w xs b here.in-range) in
+    let wide = row-whole w xs b here.in-range in
     let whole : c.unwrap.result.now ≡ bytes = (rw c.unwrap.ensures at c.as_array.ensures.cases).same in
     let r = g.L.Layout.written (row w xs b) bytes in
     let shows = g.met.L.Layout.reads_back (row w xs b) bytes wide here.whole in

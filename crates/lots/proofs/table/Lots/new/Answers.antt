@@ -1,5 +1,5 @@
 use Rattle.std.proofs.Common.{rules}
-use Rattle.lots.specs.Deeds.{fresh-nothing, fresh-full, fresh-owned}
+use Rattle.lots.proofs.Deeds.{fresh-nothing, fresh-full, fresh-owned}
 use Rattle.lots.proofs.table.Lots.new.Goals as goal
 
 pub invariant_of-result : goal.invariant_of-result

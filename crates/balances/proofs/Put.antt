@@ -1,53 +1,54 @@
 -- One holding of a table changed. Assumes nothing.
-use Rattle.std.specs.Prelude.{◌≡◌, ℕ, ◌+◌, ◌-◌, ◌<◌, ◌≤◌, Bool, true, false, cond, ◌⊎◌, List, [], length, get_or, ◌==◌, ◌≢◌, slice_index_or, slice_set, refl}
+use Rattle.std.specs.Prelude.{◌≡◌, ℕ, ◌+◌, ◌-◌, ◌<◌, Bool, true, false, cond, List, [], length, get_or, ◌==◌, ◌≢◌, slice_index_or, slice_set, refl}
 use Rattle.std.proofs.Common.{sym, ap, ◌∙◌, ⊎_elim, arith}
-use Rattle.std.proofs.lemmas.List.{get_or-set_same, get_or-set_other, length-set, get_or_past}
-use Rattle.std.proofs.lemmas.Bool.{cases_eq, cases_lt, and_left, and_right, and_from, eq-eqb, ne_eqb}
+use Rattle.std.proofs.lemmas.List.{get_or-set_same, get_or-set_other, length-set}
+use Rattle.std.proofs.lemmas.Bool.{cases_eq, and_left, and_right, and_from, eq-eqb, ne_eqb}
 use Rattle.book.specs.declared.Holding.{Holding}
 use Rattle.book.specs.Sums.{here}
 use Rattle.book.specs.Holdings.{Holdings, apply, crediting, blocking, lowered}
 use Rattle.book.proofs.Same.{holdings-same}
-use Rattle.book.proofs.Change.{kept_at, raised_at, lowered-at}
-use Rattle.balances.specs.Rows.{none, at, amounts, Full}
+use Rattle.book.proofs.Change.{kept-at, raised-at, lowered-at}
+use Rattle.book.specs.Rulings.{no_holding}
+use Rattle.balances.specs.Rows.{at, amounts, Full}
 
 abbrev pub put : List (List Holding) → ℕ → ℕ → Holding → List (List Holding)
 put rows A I h = slice_set rows I (slice_set (slice_index_or rows I []) A h)
 
-free_of : (t : Bool) (h g : Holding) → (cond t h g).free ≡ cond t h.free g.free
-free_of true h g = refl
-free_of false h g = refl
+free-of : (t : Bool) (h g : Holding) → (cond t h g).free ≡ cond t h.free g.free
+free-of true h g = refl
+free-of false h g = refl
 
 blocked-of : (t : Bool) (h g : Holding) → (cond t h g).blocked ≡ cond t h.blocked g.blocked
 blocked-of true h g = refl
 blocked-of false h g = refl
 
 module _ (rows : List (List Holding)) (A I : ℕ) (h : Holding) (li : I < length rows) where
-  same_row : (i : ℕ) → i ≡ I → slice_index_or (put rows A I h) i [] ≡ slice_set (slice_index_or rows I []) A h
-  same_row i e = rw e (get_or-set_same rows I (slice_set (slice_index_or rows I []) A h) [] li)
+  same-row : (i : ℕ) → i ≡ I → slice_index_or (put rows A I h) i [] ≡ slice_set (slice_index_or rows I []) A h
+  same-row i e = rw e (get_or-set_same rows I (slice_set (slice_index_or rows I []) A h) [] li)
 
-  other_row : (i : ℕ) → (i ≢ I) → slice_index_or (put rows A I h) i [] ≡ slice_index_or rows i []
-  other_row i ne = get_or-set_other rows I i (slice_set (slice_index_or rows I []) A h) [] ne
+  other-row : (i : ℕ) → (i ≢ I) → slice_index_or (put rows A I h) i [] ≡ slice_index_or rows i []
+  other-row i ne = get_or-set_other rows I i (slice_set (slice_index_or rows I []) A h) [] ne
 
-  pub full_put : Full rows → Full (put rows A I h)
-  full_put full = (
+  pub full-put : Full rows → Full (put rows A I h)
+  full-put full = (
     length-set rows I (slice_set (slice_index_or rows I []) A h) ∙ full.0,
     λ i l.
-        ⊎_elim (λ e. ap length (same_row i e) ∙ length-set (slice_index_or rows I []) A h ∙ full.1 I (omega arith))
-        (λ ne. ap length (other_row i ne) ∙ full.1 i l) (cases_eq i I),
+        ⊎_elim (λ e. ap length (same-row i e) ∙ length-set (slice_index_or rows I []) A h ∙ full.1 I (omega arith))
+        (λ ne. ap length (other-row i ne) ∙ full.1 i l) (cases_eq i I),
   )
 
   pub at-put : A < length (slice_index_or rows I []) → (a i : ℕ) → at (put rows A I h) a i ≡ cond (here A I a i) h (at rows a i)
   at-put la a i =
       ⊎_elim
-      (λ e. let row = ap (λ r. get_or r a none) (same_row i e) in
+      (λ e. let row = ap (λ r. get_or r a no_holding) (same-row i e) in
       ⊎_elim
       (λ f. let t = and_from (A == a) (I == i) (eq-eqb A a (sym f)) (eq-eqb I i (sym e)) in
-      row ∙ rw (t, f) (get_or-set_same (slice_index_or rows I []) A h none la))
+      row ∙ rw (t, f) (get_or-set_same (slice_index_or rows I []) A h no_holding la))
       (λ nf. let t = and_left (A == a) (I == i) (ne_eqb A a (λ w. nf (sym w))) in
-      row ∙ rw (t, e) (get_or-set_other (slice_index_or rows I []) A a h none nf))
+      row ∙ rw (t, e) (get_or-set_other (slice_index_or rows I []) A a h no_holding nf))
       (cases_eq a A))
       (λ ne. let t = and_right (A == a) (I == i) (ne_eqb I i (λ w. ne (sym w))) in
-      ap (λ r. get_or r a none) (other_row i ne) ∙ rw t)
+      ap (λ r. get_or r a no_holding) (other-row i ne) ∙ rw t)
       (cases_eq i I)
 
   -- the amounts of a book that agrees with h at the place, and elsewhere with what was there
@@ -57,7 +58,7 @@ module _ (rows : List (List Holding)) (A I : ℕ) (h : Holding) (li : I < length
       → amounts (put rows A I h) ≡ c
   amounts-put la c p q =
       holdings-same (amounts (put rows A I h)) c
-      (λ a i. ap (λ g. g.free) (at-put la a i) ∙ free_of (here A I a i) h (at rows a i) ∙ p a i)
+      (λ a i. ap (λ g. g.free) (at-put la a i) ∙ free-of (here A I a i) h (at rows a i) ∙ p a i)
       (λ a i. ap (λ g. g.blocked) (at-put la a i) ∙ blocked-of (here A I a i) h (at rows a i) ∙ q a i)
 
 module _ (rows : List (List Holding)) (A I q : ℕ) (li : I < length rows) (la : A < length (slice_index_or rows I [])) where
@@ -69,19 +70,13 @@ module _ (rows : List (List Holding)) (A I q : ℕ) (li : I < length rows) (la :
 
   pub put-credit : amounts (put rows A I (record { free = (at rows A I).free + q; blocked = (at rows A I).blocked })) ≡ apply (amounts rows) (crediting A I q)
   unfolding f g
-  put-credit = amounts-put rows A I _ li la _ (raised_at f A I q) (kept_at g A I q)
+  put-credit = amounts-put rows A I _ li la _ (raised-at f A I q) (kept-at g A I q)
 
   pub put-block : amounts (put rows A I (record { free = (at rows A I).free - q; blocked = (at rows A I).blocked + q })) ≡ apply (amounts rows) (blocking A I q)
   unfolding f g
-  put-block = amounts-put rows A I _ li la _ (lowered-at f A I q) (raised_at g A I q)
+  put-block = amounts-put rows A I _ li la _ (lowered-at f A I q) (raised-at g A I q)
 
   -- the first half of a transfer
   pub put-lower : amounts (put rows A I (record { free = (at rows A I).free; blocked = (at rows A I).blocked - q })) ≡ record { free = (amounts rows).free; blocked = lowered (amounts rows).blocked A I q }
   unfolding f g
-  put-lower = amounts-put rows A I _ li la _ (kept_at f A I q) (lowered-at g A I q)
-
--- nothing stands past the last account or the last item
-pub at-outside : (rows : List (List Holding)) → Full rows → (a i : ℕ) → (64 ≤ a) ⊎ (16 ≤ i) → at rows a i ≡ none
-at-outside rows full a i out =
-    ⊎_elim (λ l. get_or_past (slice_index_or rows i []) a none (⊎_elim (λ (p : 64 ≤ a). omega (arith, full.1 i l)) (λ (p : 16 ≤ i). omega arith) out))
-    (λ past. ap (λ r. get_or r a none) (get_or_past rows i [] (omega (arith, full.0)))) (cases_lt i 16)
+  put-lower = amounts-put rows A I _ li la _ (kept-at f A I q) (lowered-at g A I q)

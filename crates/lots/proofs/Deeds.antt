@@ -1,37 +1,42 @@
 -- The accepted deeds on a table of lots: what each is answered, what it leaves, and that the table stays sound. Assumes nothing.
-use Rattle.std.specs.Prelude.{◌≡◌, ℕ, ◌<◌, ◌≤◌, true, ◌⊎◌, List, length, replicate, Ok, ◌==◌, ◌≢◌, slice_set, refl}
+use Rattle.std.specs.Prelude.{◌≡◌, ℕ, ◌<◌, ◌≤◌, true, List, length, replicate, Ok, ◌==◌, ◌≢◌, slice_set, refl}
 use Rattle.std.proofs.Common.{sym, ap, ◌∙◌, ⊎_elim, arith}
 use Rattle.std.proofs.lemmas.List.{get_or-set_same, get_or-set_other, get_or_past, get_or-replicate, length-set, length-replicate}
-use Rattle.std.proofs.lemmas.Bool.{cases_eq, cases_lt, lt-ltb}
+use Rattle.std.proofs.lemmas.Bool.{cases_eq, cases_lt, lt-ltb, eqb-true, cases_Bool}
 use Rattle.answers.specs.declared.Refusal.{Refusal}
 use Rattle.book.specs.Sums.{only, here}
-use Rattle.book.specs.Holdings.{Holdings, total, nothing, Deed, apply, crediting, blocking, moving}
+use Rattle.book.specs.Holdings.{Holdings, nothing, Deed, apply, crediting, blocking, moving}
 use Rattle.book.specs.Rulings.{ruling, outcome, asked, covering}
 use Rattle.book.proofs.Same.{holdings-same}
-use Rattle.book.proofs.Change.{here_in, here-not}
+use Rattle.book.proofs.Change.{here-in, here-not}
 use Rattle.book.proofs.Accepted.{outcome-ok, asked-ok, covers-ok, credit-fits, block-accepted, move-accepted}
 use Rattle.lots.specs.declared.table.Lot.{Lot}
 use Rattle.lots.specs.declared.table.Lot.TheVariants.{Unowned, Free, Blocked}
 use Rattle.lots.specs.declared.table.Lots.{Lots}
 use Rattle.lots.specs.Owners.{lots_kind, free_of, blocked_of, at, amounts, Full, listed, Owned}
-use Rattle.lots.specs.Lot.{count, total-lot, count-le, count_none, free-stranger, blocked-stranger, is_free, is-blocked}
+use Rattle.lots.specs.Lot.{count}
+use Rattle.lots.specs.Laws.{total-is}
 
-pub total-is : (lots : List Lot) → Owned lots → (i : ℕ) → total (amounts lots) i ≡ count (at lots i)
-total-is lots owned i = total-lot (at lots i) (owned i)
+count-none : (l : Lot) → count l ≡ 0 → l ≡ Unowned
+count-none Unowned e = refl
+count-none (Free owner) e = absurd (omega arith)
+count-none (Blocked owner) e = absurd (omega arith)
 
-pub within : (lots : List Lot) → Owned lots → (i : ℕ) → total (amounts lots) i ≤ 1
-within lots owned i = omega (arith, total-is lots owned i, count-le (at lots i))
+-- the quantity is 1, and the account is the owner
+sole : (owner a q : ℕ) → 0 < q → q ≤ only (owner == a) 1 → (owner ≡ a) × (q ≡ 1)
+sole owner a q some most =
+    ⊎_elim (λ e. let o : only (owner == a) 1 ≡ 1 = ap (λ t. only t 1) e in (eqb-true owner a e, omega arith))
+    (λ e. let o : only (owner == a) 1 ≡ 0 = ap (λ t. only t 1) e in absurd (omega arith)) (cases_Bool (owner == a))
 
-at-past : (lots : List Lot) → Full lots → (i : ℕ) → 256 ≤ i → at lots i ≡ Unowned
-at-past lots full i past = get_or_past lots i Unowned (omega arith)
+is-free : (l : Lot) (a q : ℕ) → 0 < q → q ≤ free_of l a → (l ≡ Free a) × (q ≡ 1)
+is-free Unowned a q some most = absurd (omega arith)
+is-free (Free owner) a q some most = let s = sole owner a q some most in (ap Free s.0, s.1)
+is-free (Blocked owner) a q some most = absurd (omega arith)
 
-pub free-outside : (lots : List Lot) → Full lots → Owned lots → (a i : ℕ) → (64 ≤ a) ⊎ (256 ≤ i) → free_of (at lots i) a ≡ 0
-free-outside lots full owned a i out =
-    ⊎_elim (λ (l : 64 ≤ a). free-stranger (at lots i) a (owned i) l) (λ (l : 256 ≤ i). ap (λ x. free_of x a) (at-past lots full i l)) out
-
-pub blocked-outside : (lots : List Lot) → Full lots → Owned lots → (a i : ℕ) → (64 ≤ a) ⊎ (256 ≤ i) → blocked_of (at lots i) a ≡ 0
-blocked-outside lots full owned a i out =
-    ⊎_elim (λ (l : 64 ≤ a). blocked-stranger (at lots i) a (owned i) l) (λ (l : 256 ≤ i). ap (λ x. blocked_of x a) (at-past lots full i l)) out
+is-blocked : (l : Lot) (a q : ℕ) → 0 < q → q ≤ blocked_of l a → (l ≡ Blocked a) × (q ≡ 1)
+is-blocked Unowned a q some most = absurd (omega arith)
+is-blocked (Free owner) a q some most = absurd (omega arith)
+is-blocked (Blocked owner) a q some most = let s = sole owner a q some most in (ap Blocked s.0, s.1)
 
 -- one lot changed: its own amounts are the new lot's, and no other item's change
 amounts-set : (lots : List Lot) (I : ℕ) (l : Lot) (c : Holdings) → I < length lots
@@ -60,8 +65,8 @@ module _ (book : Lots) (A I q : ℕ) where
   lots = book.lots
 
   -- what the deed adds or takes, in its own item and elsewhere
-  in_item : (B a : ℕ) → q ≡ 1 → only (here B I a I) q ≡ only (B == a) 1
-  in_item B a e = ap (λ t. only t q) (here_in B I a) ∙ ap (only (B == a)) e
+  in-item : (B a : ℕ) → q ≡ 1 → only (here B I a I) q ≡ only (B == a) 1
+  in-item B a e = ap (λ t. only t q) (here-in B I a) ∙ ap (only (B == a)) e
 
   elsewhere : (B a i : ℕ) → (i ≢ I) → only (here B I a i) q ≡ 0
   elsewhere B a i ne = ap (λ t. only t q) (here-not B I a i ne)
@@ -79,11 +84,11 @@ module _ (book : Lots) (A I q : ℕ) where
   pub credit-done : Ok tt ≡ ruling lots_kind (amounts lots) (crediting A I q) → Done lots (slice_set lots I (Free A)) (crediting A I q)
   credit-done e =
       let f = credit-fits lots_kind (amounts lots) A I q e in
-      let none = count_none (at lots I) (omega (arith, total-is lots book.owned I)) in
+      let none = count-none (at lots I) (omega (arith, total-is lots book.owned I)) in
       let one : q ≡ 1 = omega arith in
       done (Free A) (crediting A I q) f.1 (lt-ltb A 64 f.0) e
       (λ t. amounts-set lots I (Free A) (apply (amounts lots) (crediting A I q)) t
-      (λ a. omega (arith, ap (λ x. free_of x a) none, in_item A a one)) (λ a. omega (arith, ap (λ x. blocked_of x a) none))
+      (λ a. omega (arith, ap (λ x. free_of x a) none, in-item A a one)) (λ a. omega (arith, ap (λ x. blocked_of x a) none))
       (λ a i ne. omega (arith, elsewhere A a i ne)) (λ a i ne. refl))
 
   module _ (n : ℕ) (short : Refusal) (c : Ok tt ≡ covering n q short) where
@@ -91,11 +96,11 @@ module _ (book : Lots) (A I q : ℕ) where
     block-done e =
         let p = asked-ok lots_kind (amounts lots).free A I n e in
         let m = covers-ok n q short c in
-        let s = is_free (at lots I) A q m.0 (omega arith) in
+        let s = is-free (at lots I) A q m.0 (omega arith) in
         done (Blocked A) (blocking A I q) p.1 (lt-ltb A 64 p.0)
         (block-accepted lots_kind (amounts lots) A I q p.0 p.1 m.0 (omega arith))
         (λ t. amounts-set lots I (Blocked A) (apply (amounts lots) (blocking A I q)) t
-        (λ a. omega (arith, ap (λ x. free_of x a) s.0, in_item A a s.1)) (λ a. omega (arith, ap (λ x. blocked_of x a) s.0, in_item A a s.1))
+        (λ a. omega (arith, ap (λ x. free_of x a) s.0, in-item A a s.1)) (λ a. omega (arith, ap (λ x. blocked_of x a) s.0, in-item A a s.1))
         (λ a i ne. omega (arith, elsewhere A a i ne)) (λ a i ne. omega (arith, elsewhere A a i ne)))
 
     module _ (e : Ok n ≡ asked lots_kind (amounts lots).blocked A I) where
@@ -109,7 +114,7 @@ module _ (book : Lots) (A I q : ℕ) where
           done (Free B) (moving A B I q) place.1 (lt-ltb B 64 lb)
           (move-accepted lots_kind (amounts lots) A B I q place.0 lb place.1 m.0 (omega (arith, place.2)))
           (λ t. amounts-set lots I (Free B) (apply (amounts lots) (moving A B I q)) t
-          (λ a. omega (arith, ap (λ x. free_of x a) s.0, in_item B a s.1)) (λ a. omega (arith, ap (λ x. blocked_of x a) s.0, in_item A a s.1))
+          (λ a. omega (arith, ap (λ x. free_of x a) s.0, in-item B a s.1)) (λ a. omega (arith, ap (λ x. blocked_of x a) s.0, in-item A a s.1))
           (λ a i ne. omega (arith, elsewhere B a i ne)) (λ a i ne. omega (arith, elsewhere A a i ne)))
 
 -- the table of nothing
