@@ -7,7 +7,7 @@ use twin::instruction::{Instruction, EARMARK, ENTER, FREE, ISSUE, PAY_IN};
 use twin::journal::{self, Header};
 use twin::rng::Rng;
 
-use crate::rows::{action, Call, Fields, Setup, BATTERY, MISFIT, SIMULATED};
+use crate::rows::{action, Call, Setup, BATTERY, MISFIT, SIMULATED};
 use crate::twins::{self, Gives};
 
 /// The data of a list, in slots of a block each.
@@ -323,12 +323,12 @@ impl Maker {
         let side = self.rng.below(2) as usize;
         let (account, item) = (self.account(), self.item(side));
         for action in [0, 1, self.rng.between(2, 3) as u8, 4] {
-            let fields = Fields {
+            let fields = Instruction {
                 account,
                 counterparty: self.account(),
                 item,
                 quantity: self.amount(side),
-                ..Fields::default()
+                ..Instruction::default()
             };
             self.add(draft, Call { fields, ..Call::of(action::BOOK + 10 * side as u8 + action) });
         }
@@ -371,7 +371,7 @@ impl Maker {
 
     fn engine_call(&mut self) -> Call {
         match self.rng.below(100) {
-            0..=59 => Call { fields: self.instruction().into(), ..Call::of(action::INSTRUCT) },
+            0..=59 => Call { fields: self.instruction(), ..Call::of(action::INSTRUCT) },
             60..=64 => self.instruct_bytes(),
             65..=92 => self.question(),
             93..=95 => Call::of(action::PRESENT),
@@ -397,7 +397,7 @@ impl Maker {
 
     /// A call that may fit or not. It neither opens nor closes.
     fn any_call(&mut self) -> Call {
-        let fields = self.instruction().into();
+        let fields = self.instruction();
         let length = self.rng.below(40) as u32;
         let number = self.boundary() as u32;
         Call { action: self.rng.between(2, 255) as u8, fields, number, from: 0, length }
@@ -463,12 +463,12 @@ impl Maker {
             action::FOUND,
         ];
         let action = self.rng.pick(&choices);
-        let fields = Fields {
+        let fields = Instruction {
             account: self.account(),
             item: self.item(0),
             currency: self.item(1),
             trade: self.trade(),
-            ..Fields::default()
+            ..Instruction::default()
         };
         Call { fields, ..Call::of(action) }
     }
@@ -477,12 +477,12 @@ impl Maker {
         let side = self.rng.below(2) as usize;
         let action = action::BOOK + 10 * side as u8 + self.rng.pick(&[0, 0, 1, 1, 2, 3, 4, 5, 6, 7, 8]);
         let item = self.item(side);
-        let mut fields = Fields {
+        let mut fields = Instruction {
             account: self.account(),
             counterparty: self.account(),
             item,
             quantity: self.amount(side),
-            ..Fields::default()
+            ..Instruction::default()
         };
         if self.rng.chance(60) {
             fields.account = self.owners[side].get(&item).copied().unwrap_or(fields.account);
@@ -497,7 +497,7 @@ impl Maker {
     }
 
     /// Changes some of the fields of a call to a book, so that more than one check may fail.
-    fn spoil(&mut self, fields: &mut Fields) {
+    fn spoil(&mut self, fields: &mut Instruction) {
         if self.rng.chance(50) {
             fields.account = self.boundary() as u16;
         }

@@ -25,49 +25,6 @@ pub struct Setup {
     pub calls: u32,
 }
 
-#[repr(C)]
-#[derive(Clone, Copy, Default, PartialEq, Eq, Debug)]
-pub struct Fields {
-    pub kind: u8,
-    pub account: u16,
-    pub counterparty: u16,
-    pub item: u16,
-    pub currency: u16,
-    pub trade: u32,
-    pub quantity: u64,
-    pub amount: u64,
-}
-
-impl From<Instruction> for Fields {
-    fn from(x: Instruction) -> Fields {
-        Fields {
-            kind: x.kind,
-            account: x.account,
-            counterparty: x.counterparty,
-            item: x.item,
-            currency: x.currency,
-            trade: x.trade,
-            quantity: x.quantity,
-            amount: x.amount,
-        }
-    }
-}
-
-impl From<Fields> for Instruction {
-    fn from(x: Fields) -> Instruction {
-        Instruction {
-            kind: x.kind,
-            account: x.account,
-            counterparty: x.counterparty,
-            item: x.item,
-            currency: x.currency,
-            trade: x.trade,
-            quantity: x.quantity,
-            amount: x.amount,
-        }
-    }
-}
-
 /// What a call does.
 pub mod action {
     pub const OPEN: u8 = 0;
@@ -96,7 +53,7 @@ pub mod action {
 #[derive(Clone, Copy, Default, PartialEq, Eq, Debug)]
 pub struct Call {
     pub action: u8,
-    pub fields: Fields,
+    pub fields: Instruction,
     pub number: u32,
     pub from: u32,
     pub length: u32,
@@ -121,7 +78,7 @@ pub struct Answer {
     pub trade: u64,
     pub first: u64,
     pub second: u64,
-    pub hand: Fields,
+    pub hand: Instruction,
 }
 
 impl Answer {
@@ -136,7 +93,7 @@ impl Answer {
             trade: NONE,
             first: 0,
             second: 0,
-            hand: Fields::default(),
+            hand: Instruction::default(),
         }
     }
 
@@ -182,6 +139,6 @@ pub struct Trial {
     pub entries: u32,
     pub refusals: u32,
     pub blocks: u32,
-    pub accepted: Fields,
-    pub refused: Fields,
+    pub accepted: Instruction,
+    pub refused: Instruction,
 }

@@ -181,7 +181,7 @@ fn filed(slip: Slip) -> Answer {
         Content::Unknown => Answer::telling(0, 0),
         Content::Known { entries, in_hand: None } => Answer::telling(1, entries.into()),
         Content::Known { entries, in_hand: Some(x) } => {
-            Answer { in_hand: 1, hand: x.into(), ..Answer::telling(1, entries.into()) }
+            Answer { in_hand: 1, hand: x, ..Answer::telling(1, entries.into()) }
         }
     }
 }
@@ -212,7 +212,7 @@ fn to_engine<D: Device, R: Book, C: Book>(
 ) -> Option<Answer> {
     let x = call.fields;
     Some(match call.action {
-        action::INSTRUCT => answered(engine.instruct(&x.into())),
+        action::INSTRUCT => answered(engine.instruct(&x)),
         action::INSTRUCT_BYTES => match Instruction::from_bytes(bytes_of(call, data)?) {
             Ok(x) => answered(engine.instruct(&x)),
             Err(refusal) => Answer::of_fault(refusal.into()),
@@ -304,8 +304,7 @@ fn fill<D: PoweredDevice, R: Book, C: Book>(mut parts: Parts<D, R, C>, trial: &T
         device.restart(u32::MAX, &[]);
         let _ = journal::format(&mut device, trial.pairs, &register, &cash);
         let mut engine = Engine::open(device, register, cash);
-        for (fields, times) in [(trial.accepted, trial.entries), (trial.refused, trial.refusals)] {
-            let x = fields.into();
+        for (x, times) in [(trial.accepted, trial.entries), (trial.refused, trial.refusals)] {
             for _ in 0..times {
                 accepted += u64::from(engine.instruct(&x).is_ok());
             }

@@ -12,7 +12,9 @@ pub const FUND: u8 = 5;
 pub const SETTLE: u8 = 6;
 pub const FREE: u8 = 7;
 
-/// An instruction of any kind and with any fields: the rules judge those.
+/// An instruction of any kind and with any fields: the rules judge those. Its fields lie in their order, so that a library can take
+/// it as it is.
+#[repr(C)]
 #[derive(Clone, Copy, Default, PartialEq, Eq, Debug)]
 pub struct Instruction {
     pub kind: u8,

@@ -1,4 +1,6 @@
-//! Random numbers from a seed.
+//! Random numbers from a seed, and work over many seeds.
+
+use std::sync::atomic::{AtomicU64, Ordering};
 
 /// The generator splitmix64.
 pub struct Rng(u64);
@@ -47,4 +49,20 @@ impl Rng {
             })
             .expect("the draw is below the sum")
     }
+}
+
+/// Does the work of so many seeds in a row, shared between threads.
+pub fn each_seed(count: u64, first: u64, threads: u64, work: impl Fn(u64) + Sync) {
+    let next = AtomicU64::new(0);
+    std::thread::scope(|scope| {
+        for _ in 0..threads {
+            scope.spawn(|| loop {
+                let index = next.fetch_add(1, Ordering::Relaxed);
+                if index >= count {
+                    break;
+                }
+                work(first + index);
+            });
+        }
+    });
 }

@@ -6,12 +6,12 @@
 
 use std::collections::BTreeMap;
 use std::process::ExitCode;
-use std::sync::atomic::{AtomicU64, Ordering};
 use std::sync::Mutex;
 
 use library::lists::{List, Maker};
 use library::rows::Answer;
 use library::{original, twins};
+use twin::rng::each_seed;
 
 fn main() -> ExitCode {
     let arguments: Vec<String> = std::env::args().skip(1).collect();
@@ -52,25 +52,14 @@ impl Outcome {
 }
 
 fn compare(count: u64, first: u64, threads: u64) -> ExitCode {
-    let next = AtomicU64::new(0);
     let all = Mutex::new(Outcome::default());
-    std::thread::scope(|scope| {
-        for _ in 0..threads {
-            scope.spawn(|| loop {
-                let index = next.fetch_add(1, Ordering::Relaxed);
-                if index >= count {
-                    break;
-                }
-                let seed = first + index;
-                let panics =
-                    || Outcome { differing: 1, differences: vec!["a panic".to_string()], ..Outcome::default() };
-                let outcome = std::panic::catch_unwind(|| compare_seed(seed, |_, _| ())).unwrap_or_else(|_| panics());
-                for difference in &outcome.differences {
-                    println!("seed {seed}, {difference}");
-                }
-                all.lock().expect("no thread panics").add(outcome);
-            });
+    each_seed(count, first, threads, |seed| {
+        let panics = || Outcome { differing: 1, differences: vec!["a panic".to_string()], ..Outcome::default() };
+        let outcome = std::panic::catch_unwind(|| compare_seed(seed, |_, _| ())).unwrap_or_else(|_| panics());
+        for difference in &outcome.differences {
+            println!("seed {seed}, {difference}");
         }
+        all.lock().expect("no thread panics").add(outcome);
     });
     let all = all.into_inner().expect("no thread panics");
     println!(

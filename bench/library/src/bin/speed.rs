@@ -6,7 +6,7 @@
 use std::hint::black_box;
 use std::time::{Duration, Instant};
 
-use library::rows::{Fields, Setup, Trial, BATTERY, SIMULATED};
+use library::rows::{Setup, Trial, BATTERY, SIMULATED};
 use library::{original, twins};
 use twin::device::{Battery, Simulated};
 use twin::instruction::{Instruction, EARMARK};
@@ -89,8 +89,8 @@ impl Case {
             entries: self.entries,
             refusals: 0,
             blocks: self.blocks(),
-            accepted: Instruction::issue(0, 0, 1).into(),
-            refused: Fields::default(),
+            accepted: Instruction::issue(0, 0, 1),
+            refused: Instruction::default(),
         }
     }
 
@@ -110,7 +110,7 @@ impl Case {
             ("instruct, refused with 24, ns", Instruction::issue(0, 0, u64::MAX)),
         ];
         for (name, x) in refused {
-            let without = Trial { rounds: 1, refused: x.into(), ..self.fill() };
+            let without = Trial { rounds: 1, refused: x, ..self.fill() };
             let with = Trial { refusals: REFUSALS, ..without };
             self.show(name, 1e9 / f64::from(REFUSALS), image, &with, &without);
         }

@@ -15,7 +15,7 @@ use std::sync::Mutex;
 
 use twin::exam::{self, Exam};
 use twin::ledger::TradeState;
-use twin::rng::Rng;
+use twin::rng::{each_seed, Rng};
 use twin::script;
 
 fn main() -> ExitCode {
@@ -70,28 +70,18 @@ fn count_answers(count: u64, first: u64) -> ExitCode {
 }
 
 fn compare(program: &str, count: u64, first: u64, threads: u64) -> ExitCode {
-    let next = AtomicU64::new(0);
     let lines = AtomicU64::new(0);
     let differing = Mutex::new(0u64);
-    std::thread::scope(|scope| {
-        for _ in 0..threads {
-            scope.spawn(|| loop {
-                let index = next.fetch_add(1, Ordering::Relaxed);
-                if index >= count {
-                    break;
-                }
-                let seed = first + index;
-                let outcome = std::panic::catch_unwind(|| {
-                    let script = generate(seed);
-                    (script::lines(&script).count() as u64, difference(program, &script))
-                });
-                let (count, difference) = outcome.unwrap_or((0, Some("the twin panics".to_string())));
-                lines.fetch_add(count, Ordering::Relaxed);
-                if let Some(difference) = difference {
-                    *differing.lock().expect("no thread panics") += 1;
-                    println!("seed {seed}: {difference}");
-                }
-            });
+    each_seed(count, first, threads, |seed| {
+        let outcome = std::panic::catch_unwind(|| {
+            let script = generate(seed);
+            (script::lines(&script).count() as u64, difference(program, &script))
+        });
+        let (count, difference) = outcome.unwrap_or((0, Some("the twin panics".to_string())));
+        lines.fetch_add(count, Ordering::Relaxed);
+        if let Some(difference) = difference {
+            *differing.lock().expect("no thread panics") += 1;
+            println!("seed {seed}: {difference}");
         }
     });
     let differing = differing.into_inner().expect("no thread panics");
