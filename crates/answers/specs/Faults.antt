@@ -1,7 +1,7 @@
 -- Faults by what they concern. Assumes nothing.
 use Rattle.std.specs.Prelude.{ℕ, Some, None}
+use Rattle.answers.specs.Numbers.{numbered}
 use Rattle.answers.specs.declared.Refusal.{Refusal}
-use Rattle.answers.specs.declared.Refusal.TheVariants.{RulesRefuse}
 use Rattle.answers.specs.declared.Fault.{Fault}
 
 -- nothing but the refusal
@@ -11,6 +11,13 @@ plain r = record { refusal = r; block = None; entry = None; trade = None; rule =
 -- a device's refusal of a call that names a block
 abbrev pub at_block : Refusal → ℕ → Fault
 at_block r b = record { refusal = r; block = Some b; entry = None; trade = None; rule = None }
+
+-- the same two by the refusal's number
+abbrev pub fault : ℕ → Fault
+fault n = plain (numbered n)
+
+abbrev pub fault_at : ℕ → ℕ → Fault
+fault_at n b = at_block (numbered n) b
 
 -- a fault met within an entry of a journal
 abbrev pub in_entry : ℕ → Fault → Fault
@@ -22,4 +29,4 @@ of_trade t f = record { refusal = f.refusal; block = f.block; entry = f.entry; t
 
 -- the rules refuse the record of entry k, by the fault f
 abbrev pub of_record : ℕ → Fault → Fault
-of_record k f = record { refusal = RulesRefuse; block = None; entry = Some k; trade = f.trade; rule = Some f.refusal }
+of_record k f = record { refusal = numbered 47; block = None; entry = Some k; trade = f.trade; rule = Some f.refusal }

@@ -49,6 +49,7 @@ pub enum Refusal {
 }
 
 impl Refusal {
+    #[tactic(auto, using(crate::proofs::Numbered::numbers_tell_apart))]
     pub fn number(self) -> u8
         ensures value { result ≡ number_of self }
         ensures apart { NumbersTellApart }

@@ -92,7 +92,7 @@ module _ (k : BookKind) (b : Holdings) where
 
   -- a release is a transfer of an account to itself
   pub ruling-self : (A I q : ℕ) → ruling k b (moving A A I q) ≡ ruling k b (releasing A I q)
-  ruling-self A I q = ap (λ t. first (t refuses NoAccount ∷ leb k.items I refuses NoItem ∷ eqb q 0 refuses NoQuantity ∷ ltb (b.blocked A I) q refuses OverBlocked ∷ [])) (twice (leb 64 A))
+  ruling-self A I q = ap (λ t. first (t refuses 21 ∷ leb k.items I refuses 22 ∷ eqb q 0 refuses 23 ∷ ltb (b.blocked A I) q refuses 26 ∷ [])) (twice (leb 64 A))
 
   pub outcome-self : (A I q : ℕ) → outcome k b (moving A A I q) ≡ outcome k b (releasing A I q)
   outcome-self A I q = ap (λ r. on_ok r (apply b (releasing A I q)) b) (ruling-self A I q)

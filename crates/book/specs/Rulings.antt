@@ -1,7 +1,7 @@
 -- A book's checks in their order, and what each call answers and leaves. Assumes nothing.
 use Rattle.std.specs.Prelude.{ℕ, ◌+◌, Bool, cond, ◌||◌, ltb, leb, List, [], ◌∷◌, Ok, Err, Result, ◌==◌, nat_eq, nat_le, nat_lt}
 use Rattle.answers.specs.declared.Refusal.{Refusal}
-use Rattle.answers.specs.declared.Refusal.TheVariants.{NoAccount, NoItem, NoQuantity, OverCeiling, OverFree, OverBlocked}
+use Rattle.answers.specs.Numbers.{numbered}
 use Rattle.book.specs.declared.Holding.{Holding}
 use Rattle.book.specs.Holdings.{Holdings, BookKind, limit, total, Deed, keep, crediting, blocking, releasing, moving, apply}
 
@@ -10,8 +10,9 @@ pub record Check : Type 0 where
   pub fails : Bool
   pub refusal : Refusal
 
-abbrev pub ◌refuses◌ : Bool → Refusal → Check
-b refuses r = record { fails = b; refusal = r }
+-- by the refusal's number
+abbrev pub ◌refuses◌ : Bool → ℕ → Check
+b refuses n = record { fails = b; refusal = numbered n }
 
 infix 69 ◌refuses◌
 -- the answer of checks in order: the first that holds refuses
@@ -22,10 +23,10 @@ first (c ∷ cs) = cond c.fails (Err c.refusal) (first cs)
 module _ (k : BookKind) (b : Holdings) where
   abbrev pub checks : Deed → List Check
   checks keep = []
-  checks (crediting A I q) = leb 64 A refuses NoAccount ∷ leb k.items I refuses NoItem ∷ nat_eq q 0 refuses NoQuantity ∷ ltb (limit k b I) (total b I + q) refuses OverCeiling ∷ []
-  checks (blocking A I q) = leb 64 A refuses NoAccount ∷ leb k.items I refuses NoItem ∷ nat_eq q 0 refuses NoQuantity ∷ ltb (b.free A I) q refuses OverFree ∷ []
-  checks (releasing A I q) = leb 64 A refuses NoAccount ∷ leb k.items I refuses NoItem ∷ nat_eq q 0 refuses NoQuantity ∷ ltb (b.blocked A I) q refuses OverBlocked ∷ []
-  checks (moving A B I q) = (nat_le 64 A || nat_le 64 B) refuses NoAccount ∷ leb k.items I refuses NoItem ∷ nat_eq q 0 refuses NoQuantity ∷ ltb (b.blocked A I) q refuses OverBlocked ∷ []
+  checks (crediting A I q) = leb 64 A refuses 21 ∷ leb k.items I refuses 22 ∷ nat_eq q 0 refuses 23 ∷ ltb (limit k b I) (total b I + q) refuses 24 ∷ []
+  checks (blocking A I q) = leb 64 A refuses 21 ∷ leb k.items I refuses 22 ∷ nat_eq q 0 refuses 23 ∷ ltb (b.free A I) q refuses 25 ∷ []
+  checks (releasing A I q) = leb 64 A refuses 21 ∷ leb k.items I refuses 22 ∷ nat_eq q 0 refuses 23 ∷ ltb (b.blocked A I) q refuses 26 ∷ []
+  checks (moving A B I q) = (nat_le 64 A || nat_le 64 B) refuses 21 ∷ leb k.items I refuses 22 ∷ nat_eq q 0 refuses 23 ∷ ltb (b.blocked A I) q refuses 26 ∷ []
 
   abbrev pub ruling : Deed → Result (Unit {0}) Refusal
   ruling w = first (checks w)
@@ -41,11 +42,11 @@ outcome k b w = on_ok (ruling k b w) (apply b w) b
 
 -- some quantity, and no more than is there
 abbrev pub covering : ℕ → ℕ → Refusal → Result (Unit {0}) Refusal
-covering n q short = cond (q == 0) (Err NoQuantity) (cond (nat_lt n q) (Err short) (Ok tt))
+covering n q short = cond (q == 0) (Err (numbered 23)) (cond (nat_lt n q) (Err short) (Ok tt))
 
 -- a question of an amount
 abbrev pub asked : {X : Type 0} → BookKind → (ℕ → ℕ → X) → ℕ → ℕ → Result X Refusal
-asked k f a i = cond (nat_le 64 a) (Err NoAccount) (cond (nat_le k.items i) (Err NoItem) (Ok (f a i)))
+asked k f a i = cond (nat_le 64 a) (Err (numbered 21)) (cond (nat_le k.items i) (Err (numbered 22)) (Ok (f a i)))
 
 -- free and blocked of nothing
 abbrev pub no_holding : Holding
@@ -56,4 +57,4 @@ holding_at b a i = record { free = b.free a i; blocked = b.blocked a i }
 
 -- a question of an item's total
 abbrev pub totalled : BookKind → Holdings → ℕ → Result ℕ Refusal
-totalled k b i = cond (nat_le k.items i) (Err NoItem) (Ok (total b i))
+totalled k b i = cond (nat_le k.items i) (Err (numbered 22)) (Ok (total b i))

@@ -1,7 +1,7 @@
 -- What each call of a depository answers and where it leads, by the engine's and the device's own relations. Assumes nothing.
 use Rattle.std.specs.Prelude.{◌≡◌, ℕ, Some, None, Ok, Err, Option, Result}
 use Rattle.answers.specs.declared.Refusal.{Refusal}
-use Rattle.answers.specs.declared.Refusal.TheVariants.{OpeningRefused}
+use Rattle.answers.specs.Numbers.{numbered}
 use Rattle.instruction.specs.declared.Instruction.{Instruction}
 use Rattle.book.specs.Holdings.{Holdings}
 use Rattle.rulebook.specs.Terms.{Side, securities, cash}
@@ -53,7 +53,7 @@ abbrev pub slip_answer : Mode → ℕ → Option Instruction → Option Contents
 slip_answer m n last None = None
 slip_answer Open n last (Some c) = Some (Ok (judged (Some c) n last))
 slip_answer (Down x) n last (Some c) = Some (Ok (judged (Some c) n last))
-slip_answer (Refused f) n last (Some c) = Some (Err OpeningRefused)
+slip_answer (Refused f) n last (Some c) = Some (Err (numbered 41))
 
 -- the slip that is still owed then
 abbrev pub owed_after : Mode → Option Contents → Option Contents

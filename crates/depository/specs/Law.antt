@@ -1,7 +1,7 @@
 -- The law of survival: what a depository's tally says stands, at every moment of a run. Assumes nothing.
 use Rattle.std.specs.Prelude.{◌≡◌, ℕ, suc, ◌+◌, ◌*◌, ◌<◌, ◌≤◌, true, false, ◌⊎◌, List, length, take, Some, None, Ok, Err, Option, Result, slice_index_or}
 use Rattle.answers.specs.declared.Refusal.{Refusal}
-use Rattle.answers.specs.declared.Refusal.TheVariants.{NoCalls}
+use Rattle.answers.specs.Numbers.{number_of}
 use Rattle.instruction.specs.declared.Instruction.{Instruction}
 use Rattle.book.specs.Holdings.{Holdings}
 use Rattle.rulebook.specs.Terms.{Side}
@@ -58,7 +58,7 @@ Upholds (Some (Err r)) = ⊥
 abbrev pub UpheldBy : Answer → Option (Result Verdict Refusal) → Type 0
 UpheldBy (Ok u) verdict = Upholds verdict
 -- and one that is refused was refused for want of calls only
-UpheldBy (Err f) verdict = f.refusal ≡ NoCalls
+UpheldBy (Err f) verdict = number_of f.refusal ≡ 13
 
 abbrev pub Upheld : Reply → Type 0
 Upheld (Opened o) = UpheldBy o.answer o.presented

@@ -1,8 +1,8 @@
 -- What the calls of a device answer and change: m is the device before the call, and m' after it. Assumes nothing.
 use Rattle.std.specs.Prelude.{◌≡◌, ℕ, ◌-◌, true, false, cond, List, length, Some, None, Ok, Err, Option, Result, ◌==◌, ◌≢◌, nat_le}
-use Rattle.answers.specs.declared.Refusal.TheVariants.{NoBlock, NotABlock, NoCalls, Unreadable}
+use Rattle.answers.specs.Numbers.{number_of}
 use Rattle.answers.specs.declared.Fault.{Fault}
-use Rattle.answers.specs.Faults.{plain, at_block}
+use Rattle.answers.specs.Faults.{fault, fault_at}
 use Rattle.device.specs.Medium.{Medium}
 
 abbrev pub Answer : Type 0
@@ -15,16 +15,16 @@ if_ok (Err e) a b = b
 -- the checks that a read and a write share, in order: of size blocks and left calls, for block b and n bytes
 abbrev pub admitted : ℕ → ℕ → ℕ → ℕ → Answer
 admitted size left b n =
-    cond (nat_le size b) (Err (at_block NoBlock b))
-    (cond (n == 256) (cond (left == 0) (Err (at_block NoCalls b)) (Ok tt))
-    (Err (at_block NotABlock b)))
+    cond (nat_le size b) (Err (fault_at 11 b))
+    (cond (n == 256) (cond (left == 0) (Err (fault_at 13 b)) (Ok tt))
+    (Err (fault_at 12 b)))
 
 abbrev pub write_answer : Medium → ℕ → ℕ → Answer
 write_answer m b n = admitted m.size m.left b n
 
 -- the check of a sync
 abbrev pub spend_answer : ℕ → Answer
-spend_answer left = cond (left == 0) (Err (plain NoCalls)) (Ok tt)
+spend_answer left = cond (left == 0) (Err (fault 13)) (Ok tt)
 
 abbrev pub sync_answer : Medium → Answer
 sync_answer m = spend_answer m.left
@@ -32,7 +32,7 @@ sync_answer m = spend_answer m.left
 -- what an admitted read of block b answers, by what b holds
 abbrev pub found : ℕ → Option (List ℕ) → Answer
 found b (Some bytes) = Ok tt
-found b None = Err (at_block Unreadable b)
+found b None = Err (fault_at 14 b)
 
 -- what it leaves in the buffer
 abbrev pub filled : Option (List ℕ) → List ℕ → List ℕ
@@ -69,7 +69,7 @@ pub record Read (m m' : Medium) (b : ℕ) (old new : List ℕ) (r : Answer) : Ty
 -- refused for another reason than that no calls were left; else nothing.
 abbrev pub Written : Answer → Medium → Medium → ℕ → List ℕ → Type 0
 Written (Ok x) m m' b bytes = m'.holds b ≡ Some bytes
-Written (Err e) m m' b bytes = (e.refusal ≢ NoCalls) → SameBlocks m m'
+Written (Err e) m m' b bytes = (number_of e.refusal ≢ 13) → SameBlocks m m'
 
 pub record Write (m m' : Medium) (b : ℕ) (bytes : List ℕ) (r : Answer) : Type 0 where
   pub answer : r ≡ write_answer m b (length bytes)

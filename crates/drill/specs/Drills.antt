@@ -1,8 +1,7 @@
 -- What a drill shows of any powered device: m is the device before it, and m' after it. Assumes nothing.
 use Rattle.std.specs.Prelude.{◌≡◌, ℕ, ◌-◌, true, false, List, length, replicate, Some, Ok, Err, Result, ◌≢◌, slice_index}
-use Rattle.answers.specs.declared.Refusal.TheVariants.{NoCalls}
 use Rattle.answers.specs.declared.Fault.{Fault}
-use Rattle.answers.specs.Faults.{at_block}
+use Rattle.answers.specs.Faults.{fault_at}
 use Rattle.device.specs.Medium.{Medium}
 use Rattle.device.specs.Calls.{Answer, if_ok, admitted, spend_answer, and_then, filled, read_answer}
 use Rattle.drill.specs.declared.exercise.Ends.{Ends}
@@ -30,9 +29,9 @@ pub record LeftBehind (m m' : Medium) (kept loose : ℕ) (bytes : List ℕ) : Ty
   pub others-loose : (k : ℕ) → (k ≢ kept) → (k ≢ loose) → m'.loose k ≡ true → m.loose k ≡ true
   -- the first holds the bytes once its write was accepted; refused, that write leaves it, unless for want of calls
   pub written : admitted m.size m.left kept (length bytes) ≡ Ok tt → (kept ≢ loose) → m'.holds kept ≡ Some bytes
-  pub unwritten : (e : Fault) → admitted m.size m.left kept (length bytes) ≡ Err e → (e ≢ at_block NoCalls kept) → m'.holds kept ≡ m.holds kept
+  pub unwritten : (e : Fault) → admitted m.size m.left kept (length bytes) ≡ Err e → (e ≢ fault_at 13 kept) → m'.holds kept ≡ m.holds kept
   -- the second holds what it held where a write or the sync was refused, unless its own write was for want of calls
-  pub unreached : (e : Fault) → arm_answer m kept loose (length bytes) ≡ Err e → (e ≢ at_block NoCalls loose) → (kept ≢ loose) → m'.holds loose ≡ m.holds loose
+  pub unreached : (e : Fault) → arm_answer m kept loose (length bytes) ≡ Err e → (e ≢ fault_at 13 loose) → (kept ≢ loose) → m'.holds loose ≡ m.holds loose
   -- once the sync was accepted, none but the second may be loose
   pub synced : keep_answer m kept (length bytes) ≡ Ok tt → (k : ℕ) → (k ≢ loose) → m'.loose k ≡ false
 

@@ -4,6 +4,7 @@ use Rattle.std.proofs.lemmas.Bool.{eq-eqb, ne_eqb, cases_lt, cases_eq, cond-true
 use Rattle.std.proofs.lemmas.List.{take_all, drop_all, take_more, drop_more}
 use Rattle.std.proofs.lemmas.Option.{same_Some, none-some}
 use Rattle.answers.specs.declared.Refusal.{Refusal}
+use Rattle.answers.specs.Numbers.{number_of}
 use Rattle.answers.specs.declared.Refusal.TheVariants.{NoCalls}
 use Rattle.answers.specs.declared.Fault.{Fault}
 use Rattle.answers.specs.Faults.{at_block, in_entry}
@@ -64,7 +65,7 @@ pub record Ends (z : Scan) (n calls : ℕ) (ws : List Instruction) (t : Standing
   pub enough : 2 * n ≤ calls → z.outcome ≡ Ok (record { count = length ws; last = last_of ws })
   pub only : (found : Recovered) → z.outcome ≡ Ok found → (found ≡ record { count = length ws; last = last_of ws }) × (z.standing ≡ t)
   pub fewer : z.left ≤ calls
-  pub short : (f : Fault) → z.outcome ≡ Err f → f.refusal ≡ NoCalls
+  pub short : (f : Fault) → z.outcome ≡ Err f → number_of f.refusal ≡ 13
 
 module _ {ws : List Instruction} {t : Standing} where
   ends-found : (k n calls left : ℕ) (s : Standing) (last : Option Instruction) → k ≡ length ws → last ≡ last_of ws → t ≡ s → left ≤ calls
@@ -78,12 +79,12 @@ module _ {ws : List Instruction} {t : Standing} where
         short = λ f e. absurd cc;
       }
 
-  ends-refused : (f : Fault) (n calls left : ℕ) (s : Standing) → f.refusal ≡ NoCalls → calls < 2 * n → left ≤ calls → Ends (record { outcome = Err f; left = left; standing = s }) n calls ws t
+  ends-refused : (f : Fault) (n calls left : ℕ) (s : Standing) → number_of f.refusal ≡ 13 → calls < 2 * n → left ≤ calls → Ends (record { outcome = Err f; left = left; standing = s }) n calls ws t
   ends-refused f n calls left s wants few l = record {
     enough = λ h. absurd (omega arith);
     only = λ found e. absurd cc;
     fewer = l;
-    short = λ g e. let is : f ≡ g = cc in subst (λ x. x.refusal ≡ NoCalls) is wants;
+    short = λ g e. let is : f ≡ g = cc in subst (λ x. number_of x.refusal ≡ 13) is wants;
   }
 
   ends-onward : (z : Scan) (n calls : ℕ) → Ends z n (calls - 2) ws t → 2 ≤ calls → Ends z (suc n) calls ws t

@@ -1,6 +1,6 @@
 -- What a device keeps for an opening to find.
 use Rattle.std.proofs.Common.{◌≡◌, ℕ, ◌+◌, ◌*◌, ◌≤◌, ◌⊎◌, List, [], ◌∷◌, ◌++◌, length, Some, None, Ok, Option}
-use Rattle.answers.specs.declared.Refusal.TheVariants.{NoCalls}
+use Rattle.answers.specs.Numbers.{number_of}
 use Rattle.instruction.specs.declared.Instruction.{Instruction}
 use Rattle.rulebook.specs.Rules.{Rulebook, Standing, Runs, answer}
 use Rattle.device.specs.Medium.{Medium}
@@ -36,7 +36,7 @@ pub record Holding (h : Rulebook) (pairs : ℕ) (ys : List Instruction) (v : Vie
 abbrev pub FoundBy : Rulebook → ℕ → List Instruction → Option Instruction → View → Mode → Type 0
 FoundBy h pairs xs hand v Open = (ys : List Instruction) × WithOrWithout xs hand ys × Holding h pairs ys v
 FoundBy h pairs xs hand v (Down x) = ⊥
-FoundBy h pairs xs hand v (Refused f) = (f.refusal ≡ NoCalls) × Journal (written_by h pairs) v.medium xs hand
+FoundBy h pairs xs hand v (Refused f) = (number_of f.refusal ≡ 13) × Journal (written_by h pairs) v.medium xs hand
 
 -- What an opening finds on a device that keeps the list and what is in hand. It only reads, and with enough calls it is
 -- not refused.

@@ -1,7 +1,7 @@
 -- What an engine answers of itself, and what its closing gives. Assumes nothing.
 use Rattle.std.specs.Prelude.{ℕ, Some, None, Ok, Err, Option, Result}
 use Rattle.answers.specs.declared.Refusal.{Refusal}
-use Rattle.answers.specs.declared.Refusal.TheVariants.{OpeningRefused}
+use Rattle.answers.specs.Numbers.{numbered}
 use Rattle.answers.specs.declared.Fault.{Fault}
 use Rattle.engine.specs.declared.engine.Mode.{Mode}
 use Rattle.engine.specs.declared.engine.Mode.TheVariants.{Open, Down, Refused}
@@ -21,7 +21,7 @@ opening_answer (Refused f) = Err f
 abbrev pub if_answering : {X : Type 0} → Mode → Result X Refusal → Result X Refusal
 if_answering Open r = r
 if_answering (Down x) r = r
-if_answering (Refused f) r = Err OpeningRefused
+if_answering (Refused f) r = Err (numbered 41)
 
 -- What the slip of a closing tells: how many entries stand, and what is in hand if power went; nothing where the opening was
 -- refused.
@@ -37,7 +37,7 @@ closing v = told_by v.mode v.count
 abbrev pub verdict_by : Mode → View → Slip → Result Verdict (Refusal × Slip)
 verdict_by Open v s = Ok (judged (contents s) v.found v.last)
 verdict_by (Down x) v s = Ok (judged (contents s) v.found v.last)
-verdict_by (Refused f) v s = Err (OpeningRefused, s)
+verdict_by (Refused f) v s = Err (numbered 41, s)
 
 abbrev pub presented : View → Slip → Result Verdict (Refusal × Slip)
 presented v s = verdict_by v.mode v s

@@ -1,6 +1,6 @@
 -- What an instruction is answered, and what it leaves of the engine. Assumes nothing.
 use Rattle.std.specs.Prelude.{◌≡◌, ℕ, ◌+◌, cond, Ok, Err, nat_le}
-use Rattle.answers.specs.declared.Refusal.TheVariants.{JournalFull, OpeningRefused, EngineDown}
+use Rattle.answers.specs.Numbers.{numbered}
 use Rattle.answers.specs.Faults.{in_entry}
 use Rattle.instruction.specs.declared.Instruction.{Instruction}
 use Rattle.rulebook.specs.Rules.{Rulebook, about, fault_of, verdict, effect}
@@ -14,12 +14,12 @@ use Rattle.engine.specs.View.{View}
 -- only an open engine goes on to what comes next
 abbrev pub ready : Mode → Instruction → Answer → Answer
 ready Open x next = next
-ready (Down y) x next = Err (fault_of x EngineDown)
-ready (Refused f) x next = Err (fault_of x OpeningRefused)
+ready (Down y) x next = Err (fault_of x (numbered 42))
+ready (Refused f) x next = Err (fault_of x (numbered 41))
 
 -- all entries are used
 abbrev pub room_for : Instruction → View → Answer
-room_for x v = cond (nat_le v.pairs v.count) (Err (fault_of x JournalFull)) (Ok tt)
+room_for x v = cond (nat_le v.pairs v.count) (Err (fault_of x (numbered 36))) (Ok tt)
 
 -- the checks of an instruction in order, before anything is written: the engine, the rules, the room
 abbrev pub checked : Rulebook → Instruction → View → Answer

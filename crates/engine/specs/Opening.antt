@@ -1,9 +1,8 @@
 -- What an opening gives. Assumes nothing.
 use Rattle.std.specs.Prelude.{ℕ, ◌+◌, ◌*◌, ◌≤◌, cond, ◌&&◌, List, [], ◌∷◌, Some, None, Ok, Err, Option, Result, ◌==◌, nat_le, nat_lt}
 use Rattle.answers.specs.declared.Refusal.{Refusal}
-use Rattle.answers.specs.declared.Refusal.TheVariants.{NoBlock, NoCalls, Unreadable, OtherKinds, TooFewBlocks}
 use Rattle.answers.specs.declared.Fault.{Fault}
-use Rattle.answers.specs.Faults.{plain, at_block}
+use Rattle.answers.specs.Faults.{plain, fault, fault_at}
 use Rattle.instruction.specs.declared.Instruction.{Instruction}
 use Rattle.rulebook.specs.Terms.{securities, cash}
 use Rattle.rulebook.specs.Rules.{Rulebook, Standing, empty}
@@ -20,22 +19,22 @@ use Rattle.engine.specs.Recovery.{with_calls, drained, Scan, scan}
 abbrev pub fitting : ℕ → ℕ → ℕ → Header → Result ℕ Fault
 fitting register money size head =
     cond (head.register == register && head.cash == money)
-    (cond (nat_lt size (1 + 2 * head.pairs)) (Err (plain TooFewBlocks)) (Ok head.pairs))
-    (Err (plain OtherKinds))
+    (cond (nat_lt size (1 + 2 * head.pairs)) (Err (fault 45)) (Ok head.pairs))
+    (Err (fault 44))
 
 abbrev pub headed : ℕ → ℕ → ℕ → Result Header Refusal → Result ℕ Fault
 headed register money size (Ok head) = fitting register money size head
 headed register money size (Err r) = Err (plain r)
 
 abbrev pub header_held : ℕ → ℕ → ℕ → Option (List ℕ) → Result ℕ Fault
-header_held register money size None = Err (at_block Unreadable 0)
+header_held register money size None = Err (fault_at 14 0)
 header_held register money size (Some bs) = headed register money size (header_in bs)
 
 -- the checks of the header, in order
 abbrev pub header_answer : ℕ → ℕ → Medium → Result ℕ Fault
 header_answer register money m =
-    cond (nat_le m.size 0) (Err (at_block NoBlock 0))
-    (cond (m.left == 0) (Err (at_block NoCalls 0)) (header_held register money m.size (m.holds 0)))
+    cond (nat_le m.size 0) (Err (fault_at 11 0))
+    (cond (m.left == 0) (Err (fault_at 13 0)) (header_held register money m.size (m.holds 0)))
 
 -- the device after them
 abbrev pub after_header : Medium → Medium

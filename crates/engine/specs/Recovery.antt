@@ -1,9 +1,8 @@
 -- What an opening reads, entry by entry. Assumes nothing.
 use Rattle.std.specs.Prelude.{◌≡◌, ℕ, zero, suc, ◌+◌, ◌-◌, Bool, true, false, cond, List, Some, None, Ok, Err, Option, Result, ◌==◌}
 use Rattle.answers.specs.declared.Refusal.{Refusal}
-use Rattle.answers.specs.declared.Refusal.TheVariants.{NoCalls, Unreadable}
 use Rattle.answers.specs.declared.Fault.{Fault}
-use Rattle.answers.specs.Faults.{plain, at_block, in_entry, of_record}
+use Rattle.answers.specs.Faults.{plain, in_entry, of_record, fault_at}
 use Rattle.instruction.specs.declared.Instruction.{Instruction}
 use Rattle.rulebook.specs.Rules.{Rulebook, Standing, verdict, effect}
 use Rattle.device.specs.Medium.{Medium}
@@ -26,19 +25,19 @@ good k (Some bs) = is_mark k bs
 
 -- whether mark k is good
 abbrev pub mark_answer : Medium → ℕ → Result Bool Fault
-mark_answer m k = cond (m.left == 0) (Err (in_entry k (at_block NoCalls (mark_at k)))) (Ok (good k (m.holds (mark_at k))))
+mark_answer m k = cond (m.left == 0) (Err (in_entry k (fault_at 13 (mark_at k)))) (Ok (good k (m.holds (mark_at k))))
 
 abbrev pub told : ℕ → Result Instruction Refusal → Result Instruction Fault
 told k (Ok x) = Ok x
 told k (Err r) = Err (in_entry k (plain r))
 
 abbrev pub said : ℕ → Option (List ℕ) → Result Instruction Fault
-said k None = Err (in_entry k (at_block Unreadable (record_at k)))
+said k None = Err (in_entry k (fault_at 14 (record_at k)))
 said k (Some bs) = told k (record_in k bs)
 
 -- the instruction of record k
 abbrev pub record_answer : Medium → ℕ → Result Instruction Fault
-record_answer m k = cond (m.left == 0) (Err (in_entry k (at_block NoCalls (record_at k)))) (said k (m.holds (record_at k)))
+record_answer m k = cond (m.left == 0) (Err (in_entry k (fault_at 13 (record_at k)))) (said k (m.holds (record_at k)))
 
 -- the rules accept it, or the record is refused
 abbrev pub allowed : ℕ → Instruction → Result (Unit {0}) Fault → Result (Option Instruction) Fault

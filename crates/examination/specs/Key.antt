@@ -1,8 +1,7 @@
 -- The key of a script. Assumes nothing.
 use Rattle.std.specs.Prelude.{◌≡◌, ℕ, ◌+◌, ◌*◌, ◌<◌, ◌≤◌, ◌⊎◌, List, length, drop, Err}
 use Rattle.std.specs.List.{AllByRecursion}
-use Rattle.answers.specs.declared.Refusal.TheVariants.{InputTooLong}
-use Rattle.answers.specs.Faults.{plain}
+use Rattle.answers.specs.Faults.{fault}
 use Rattle.book.specs.Holdings.{Holdings}
 use Rattle.rulebook.specs.Terms.{Side}
 use Rattle.rulebook.specs.Rules.{Rulebook}
@@ -44,7 +43,7 @@ Unserved pairs m (Refused f) = format_answer pairs m ≡ Err f
 Unserved pairs m (NoMemory e) = Unit {0}
 
 abbrev pub too_long : Stop
-too_long = Refused (plain InputTooLong)
+too_long = Refused (fault 73)
 
 -- A script that got none: it is too long, and nothing was done; or what was to be done first is refused; or memory was wanting.
 abbrev pub Stopped : ℕ → Medium → List ℕ → Stop → Type 0

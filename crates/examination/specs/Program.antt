@@ -1,7 +1,7 @@
 -- The device and the books on which the program answers a script. Assumes nothing.
 use Rattle.std.specs.Prelude.{◌≡◌, ℕ, ◌<◌, ◌⊎◌, List, length, replicate}
 use Rattle.std.specs.List.{AllByRecursion}
-use Rattle.answers.specs.declared.Refusal.TheVariants.{InputTooLong}
+use Rattle.answers.specs.Numbers.{numbered}
 use Rattle.book.specs.Holdings.{Holdings, nothing}
 use Rattle.balances.specs.Rows.{balances_kind}
 use Rattle.rulebook.specs.Terms.{Side}
@@ -42,7 +42,7 @@ pub record IsKey (script text : List ℕ) : Type 0 where
 
 -- What is printed for a script: the text of its key; or line 0 alone, where it has more than 65,536 bytes.
 abbrev pub Printed : List ℕ → List ℕ → Type 0
-Printed script text = IsKey script text ⊎ ((65536 < length script) × (text ≡ refused_text InputTooLong))
+Printed script text = IsKey script text ⊎ ((65536 < length script) × (text ≡ refused_text (numbered 73)))
 
 -- A script has one key and no more: no other text could be printed for it.
 pub record OneKey : Type 0 where

@@ -1,7 +1,7 @@
 -- The kinds of instructions and their kind bytes. Assumes nothing.
 use Rattle.std.specs.Prelude.{◌≡◌, ℕ, cond, Some, None, Option, Ok, Err, Result, ◌==◌}
 use Rattle.answers.specs.declared.Refusal.{Refusal}
-use Rattle.answers.specs.declared.Refusal.TheVariants.{UnknownKind}
+use Rattle.answers.specs.Numbers.{number_of}
 use Rattle.instruction.specs.declared.Kind.{Kind}
 use Rattle.instruction.specs.declared.Kind.TheVariants.{Issue, PayIn, Enter, Earmark, Fund, Settle, Free}
 
@@ -22,7 +22,7 @@ kind_at n =
 -- reading a kind byte gives the kind that it means, or is refused where it means none
 abbrev pub Decodes : ℕ → Result Kind Refusal → Type 0
 Decodes n (Ok k) = kind_at n ≡ Some k
-Decodes n (Err r) = (kind_at n ≡ None) × (r ≡ UnknownKind)
+Decodes n (Err r) = (kind_at n ≡ None) × (number_of r ≡ 32)
 
 -- a kind is read off its own code, and off no other
 pub record KindsAndCodes : Type 0 where

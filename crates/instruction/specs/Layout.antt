@@ -2,7 +2,7 @@
 use Rattle.std.specs.Prelude.{◌≡◌, ℕ, ◌^◌, ◌<◌, Bool, cond, ◌&&◌, List, ◌∷◌, ◌++◌, length, Ok, Err, Result, ◌==◌, slice_index, slice_index_or}
 use Rattle.little_endian.specs.Little.{le, bytes, part}
 use Rattle.answers.specs.declared.Refusal.{Refusal}
-use Rattle.answers.specs.declared.Refusal.TheVariants.{Malformed}
+use Rattle.answers.specs.Numbers.{numbered, number_of}
 use Rattle.instruction.specs.declared.Kind.{Kind}
 use Rattle.instruction.specs.declared.Instruction.{Instruction}
 use Rattle.instruction.specs.Kinds.{code_of}
@@ -42,7 +42,7 @@ abbrev pub unused_zero : List ℕ → Bool
 unused_zero bs = slice_index bs 1 == 0 && (slice_index bs 10 == 0 && slice_index bs 11 == 0)
 
 abbrev pub instruction_in : List ℕ → Result Instruction Refusal
-instruction_in bs = cond (length bs == 32 && unused_zero bs) (Ok (fields bs)) (Err Malformed)
+instruction_in bs = cond (length bs == 32 && unused_zero bs) (Ok (fields bs)) (Err (numbered 46))
 
 -- the strings that are instructions: 32 bytes, those at 1, 10 and 11 zero
 pub record IsInstruction (bs : List ℕ) : Type 0 where
@@ -54,7 +54,7 @@ pub record IsInstruction (bs : List ℕ) : Type 0 where
 -- what reading answers: the one instruction that has these bytes, or that there is none
 abbrev pub Reads : List ℕ → Result Instruction Refusal → Type 0
 Reads bs (Ok i) = IsInstruction bs × (bytes_of i ≡ bs)
-Reads bs (Err r) = (r ≡ Malformed) × (IsInstruction bs → ⊥)
+Reads bs (Err r) = (number_of r ≡ 46) × (IsInstruction bs → ⊥)
 
 -- each field fits its width, as every instruction that the code holds does
 pub record Fit (i : Instruction) : Type 0 where

@@ -4,6 +4,7 @@ use Rattle.std.proofs.lemmas.Bool.{eq-eqb, eqb-true, lt-ltb, ltb-true, and_parts
 use Rattle.std.proofs.lemmas.List.{take-append-drop, drop-drop}
 use Rattle.little_endian.specs.Little.{le, bytes, part}
 use Rattle.little_endian.proofs.Widths.{le-bytes, part-back}
+use Rattle.answers.specs.Numbers.{number_of}
 use Rattle.answers.specs.declared.Refusal.{Refusal}
 use Rattle.answers.specs.declared.Refusal.TheVariants.{NotAHeader, Malformed}
 use Rattle.instruction.specs.declared.Instruction.{Instruction}
@@ -133,14 +134,14 @@ malformed bs e h = refused (eqb (length bs) 32 && unused_zero bs) _ Malformed e 
 pub reads-record : (k : ℕ) (bs : List ℕ) (r : Result Instruction Refusal) → k < 2 ^ 32 → length bs ≡ 256 → ((i : ℕ) → get_or bs i 0 < 256) → r ≡ record_in k bs → ReadsRecord k bs r
 reads-record k bs (Ok x) h l small e = record-back bs l small k x (sym e)
 reads-record k bs (Err f) h l small e = (
-  refused (is_record k bs) _ Malformed f (malformed (take 32 (drop 8 bs))) e,
+  ap number_of (refused (is_record k bs) _ Malformed f (malformed (take 32 (drop 8 bs))) e),
   λ x fits is. refuses (e ∙ ap (record_in k) (sym is) ∙ record-read k x h fits),
 )
 
 pub reads-header : (bs : List ℕ) (r : Result Header Refusal) → length bs ≡ 256 → ((i : ℕ) → get_or bs i 0 < 256) → r ≡ header_in bs → ReadsHeader bs r
 reads-header bs (Ok h) l small e = read-header bs h l small (sym e)
 reads-header bs (Err f) l small e = (
-  refused (is_header bs) _ NotAHeader f (λ g q. absurd (refuses (sym q))) e,
+  ap number_of (refused (is_header bs) _ NotAHeader f (λ g q. absurd (refuses (sym q))) e),
   λ h p is. refuses (e ∙ ap header_in (sym is) ∙ header-read h p.register p.cash p.some p.few),
 )
 

@@ -3,7 +3,7 @@ use Rattle.std.specs.Prelude.{ℕ, ◌-◌, Bool, cond, ◌&&◌, List, ◌∷�
 use Rattle.std.specs.List.{list_all}
 use Rattle.little_endian.specs.Little.{bytes}
 use Rattle.answers.specs.declared.Refusal.{Refusal}
-use Rattle.answers.specs.declared.Refusal.TheVariants.{NotAHeader, Malformed}
+use Rattle.answers.specs.Numbers.{numbered}
 use Rattle.instruction.specs.declared.Instruction.{Instruction}
 use Rattle.instruction.specs.Layout.{bytes_of, instruction_in, field}
 use Rattle.journal.specs.declared.header.Header.{Header}
@@ -31,7 +31,7 @@ abbrev pub is_header : List ℕ → Bool
 is_header bs = slice_index bs 0 == 1 && (slice_index bs 1 == 2 && (nat_lt 0 (field 4 4 bs) && (nat_lt (field 4 4 bs) 32768 && all_zero (drop 8 bs))))
 
 abbrev pub header_in : List ℕ → Result Header Refusal
-header_in bs = cond (is_header bs) (Ok (record { register = slice_index bs 2; cash = slice_index bs 3; pairs = field 4 4 bs })) (Err NotAHeader)
+header_in bs = cond (is_header bs) (Ok (record { register = slice_index bs 2; cash = slice_index bs 3; pairs = field 4 4 bs })) (Err (numbered 43))
 
 abbrev pub is_mark : ℕ → List ℕ → Bool
 is_mark k bs = field 0 4 bs == k && (field 4 4 bs == 4294967295 - k && all_zero (drop 8 bs))
@@ -41,7 +41,7 @@ is_record k bs = field 0 4 bs == k && (field 4 4 bs == 1 && all_zero (drop 40 bs
 
 -- the instruction in bytes 8 to 39 of record k
 abbrev pub record_in : ℕ → List ℕ → Result Instruction Refusal
-record_in k bs = cond (is_record k bs) (instruction_in (take 32 (drop 8 bs))) (Err Malformed)
+record_in k bs = cond (is_record k bs) (instruction_in (take 32 (drop 8 bs))) (Err (numbered 46))
 
 abbrev pub read_in : Result Instruction Refusal → Option Instruction
 read_in (Ok x) = Some x

@@ -1,7 +1,6 @@
 -- What making a device into a journal answers and leaves, by the calls left. Assumes nothing.
 use Rattle.std.specs.Prelude.{◌≡◌, ℕ, zero, suc, ◌+◌, ◌-◌, ◌*◌, ◌<◌, Bool, false, cond, ◌||◌, List, [], ◌∷◌, ◌++◌, take, Some, Ok, Err, ◌==◌, ◌≢◌, nat_lt}
-use Rattle.answers.specs.declared.Refusal.TheVariants.{NoCalls, NoRoom}
-use Rattle.answers.specs.Faults.{plain, at_block}
+use Rattle.answers.specs.Faults.{fault, fault_at}
 use Rattle.device.specs.Medium.{Medium}
 use Rattle.device.specs.Calls.{Answer}
 use Rattle.device.specs.Traces.{DeviceCall, writing, syncing}
@@ -20,13 +19,13 @@ no_room pairs size = nat_lt pairs 1 || (nat_lt 32767 pairs || nat_lt size (1 + 2
 -- a sync, the header, a sync.
 abbrev pub format_answer : ℕ → Medium → Answer
 format_answer pairs m =
-    cond (no_room pairs m.size) (Err (plain NoRoom))
-    (cond (m.left == 0) (Err (at_block NoCalls 0))
-    (cond (m.left == 1) (Err (plain NoCalls))
-    (cond (nat_lt m.left (pairs + 2)) (Err (at_block NoCalls (mark_at (m.left - 2))))
-    (cond (m.left == pairs + 2) (Err (plain NoCalls))
-    (cond (m.left == pairs + 3) (Err (at_block NoCalls 0))
-    (cond (m.left == pairs + 4) (Err (plain NoCalls)) (Ok tt)))))))
+    cond (no_room pairs m.size) (Err (fault 61))
+    (cond (m.left == 0) (Err (fault_at 13 0))
+    (cond (m.left == 1) (Err (fault 13))
+    (cond (nat_lt m.left (pairs + 2)) (Err (fault_at 13 (mark_at (m.left - 2))))
+    (cond (m.left == pairs + 2) (Err (fault 13))
+    (cond (m.left == pairs + 3) (Err (fault_at 13 0))
+    (cond (m.left == pairs + 4) (Err (fault 13)) (Ok tt)))))))
 
 -- the block of no mark
 abbrev pub Unmarked : ℕ → ℕ → Type 0
@@ -54,7 +53,7 @@ pub record Formatted (header : List ℕ) (pairs : ℕ) (m m' : Medium) : Type 0 
 
 -- the answer to a write of block b and a sync, by the calls left
 abbrev pub keep_answer : ℕ → ℕ → Answer
-keep_answer b left = cond (left == 0) (Err (at_block NoCalls b)) (cond (left == 1) (Err (plain NoCalls)) (Ok tt))
+keep_answer b left = cond (left == 0) (Err (fault_at 13 b)) (cond (left == 1) (Err (fault 13)) (Ok tt))
 
 -- what they leave, given the bytes
 pub record Kept (b : ℕ) (bytes : List ℕ) (m m' : Medium) : Type 0 where
@@ -67,7 +66,7 @@ pub record Kept (b : ℕ) (bytes : List ℕ) (m m' : Medium) : Type 0 where
 
 -- the answer to zeros in place of each mark and a sync, by the calls left
 abbrev pub blank_answer : ℕ → ℕ → Answer
-blank_answer pairs left = cond (nat_lt left pairs) (Err (at_block NoCalls (mark_at left))) (cond (left == pairs) (Err (plain NoCalls)) (Ok tt))
+blank_answer pairs left = cond (nat_lt left pairs) (Err (fault_at 13 (mark_at left))) (cond (left == pairs) (Err (fault 13)) (Ok tt))
 
 -- what they leave
 pub record Blanked (pairs : ℕ) (m m' : Medium) : Type 0 where

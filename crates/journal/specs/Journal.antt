@@ -1,7 +1,6 @@
 -- What a journal holds on its device, between calls, and what writing an entry leaves. Assumes nothing.
 use Rattle.std.specs.Prelude.{◌≡◌, ℕ, ◌+◌, ◌-◌, ◌*◌, ◌<◌, ◌≤◌, false, cond, ◌⊎◌, List, length, Some, None, Ok, Err, Option, ◌==◌, ◌≢◌, slice_index_or}
-use Rattle.answers.specs.declared.Refusal.TheVariants.{NoCalls}
-use Rattle.answers.specs.Faults.{plain, at_block}
+use Rattle.answers.specs.Faults.{fault, fault_at}
 use Rattle.device.specs.Medium.{Medium}
 use Rattle.device.specs.Calls.{Answer}
 
@@ -29,10 +28,10 @@ Firm m b bs = (m.holds b ≡ Some bs) × (m.loose b ≡ false)
 -- the answer to the four calls of an entry, by the calls left: its record, a sync, its mark, a sync
 abbrev pub enter_answer : Medium → ℕ → Answer
 enter_answer m k =
-    cond (m.left == 0) (Err (at_block NoCalls (record_at k)))
-    (cond (m.left == 1) (Err (plain NoCalls))
-    (cond (m.left == 2) (Err (at_block NoCalls (mark_at k)))
-    (cond (m.left == 3) (Err (plain NoCalls)) (Ok tt))))
+    cond (m.left == 0) (Err (fault_at 13 (record_at k)))
+    (cond (m.left == 1) (Err (fault 13))
+    (cond (m.left == 2) (Err (fault_at 13 (mark_at k)))
+    (cond (m.left == 3) (Err (fault 13)) (Ok tt))))
 
 -- What the four calls of entry k leave, given the bytes of its record and of its mark, however many of the calls
 -- there was power for: the mark is touched only once the record is safe.

@@ -1,7 +1,7 @@
 -- What reading a block answers: the one thing that has these bytes, or that nothing has them. Assumes nothing.
 use Rattle.std.specs.Prelude.{◌≡◌, ℕ, ◌<◌, Bool, true, List, Ok, Err, Result, ◌≢◌}
 use Rattle.answers.specs.declared.Refusal.{Refusal}
-use Rattle.answers.specs.declared.Refusal.TheVariants.{NotAHeader, Malformed}
+use Rattle.answers.specs.Numbers.{number_of}
 use Rattle.instruction.specs.declared.Instruction.{Instruction}
 use Rattle.instruction.specs.Layout.{Fit}
 use Rattle.journal.specs.declared.header.Header.{Header}
@@ -16,7 +16,7 @@ pub record Proper (h : Header) : Type 0 where
 
 abbrev pub ReadsHeader : List ℕ → Result Header Refusal → Type 0
 ReadsHeader bs (Ok h) = Proper h × (header_bytes h ≡ bs)
-ReadsHeader bs (Err r) = (r ≡ NotAHeader) × ((h : Header) → Proper h → header_bytes h ≢ bs)
+ReadsHeader bs (Err r) = (number_of r ≡ 43) × ((h : Header) → Proper h → header_bytes h ≢ bs)
 
 pub record ReadsMark (k : ℕ) (bs : List ℕ) (r : Bool) : Type 0 where
   pub good : r ≡ true → bs ≡ mark_bytes k
@@ -24,4 +24,4 @@ pub record ReadsMark (k : ℕ) (bs : List ℕ) (r : Bool) : Type 0 where
 
 abbrev pub ReadsRecord : ℕ → List ℕ → Result Instruction Refusal → Type 0
 ReadsRecord k bs (Ok x) = record_bytes k x ≡ bs
-ReadsRecord k bs (Err r) = (r ≡ Malformed) × ((x : Instruction) → Fit x → record_bytes k x ≢ bs)
+ReadsRecord k bs (Err r) = (number_of r ≡ 46) × ((x : Instruction) → Fit x → record_bytes k x ≢ bs)

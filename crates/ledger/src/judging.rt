@@ -1,5 +1,6 @@
 // The rules' answer to an instruction, with nothing changed.
 ghost use Rattle.std.specs.Prelude.{◌≡◌, if◌then◌else◌, Some, Ok, Err, nat_lt};
+ghost use Rattle.answers.specs.Numbers.{numbered};
 ghost use Rattle.instruction.specs.Kinds.{kind_at};
 ghost use Rattle.book.specs.Rulings.{first};
 ghost use Rattle.rulebook.specs.Rules.{stray, enter_checks, answer_as, verdict};
@@ -44,7 +45,7 @@ fn has_stray_field(kind: Kind, x: &Instruction) -> bool
 // The account has so much of the item free.
 fn enough<B: Book>(book: &B, account: u16, item: u16, wanted: u64) -> Result<(), Refusal>
     ensures { result
-        ≡ (if nat_lt ((B.holdings book.now).free account item) wanted then Err Refusal.OverFree else Ok tt) }
+        ≡ (if nat_lt ((B.holdings book.now).free account item) wanted then Err (numbered 25) else Ok tt) }
 {
     if book.available(account, item) < wanted {
         return Err(Refusal::OverFree);

@@ -2,7 +2,6 @@
 use Rattle.std.specs.Prelude.{◌≡◌, ℕ, Bool, true, false, cond, not, ◌||◌, T, leb, List, [], ◌∷◌, ◌++◌, Some, None, Ok, Err, Option, Result, ◌==◌, nat_eq, nat_le, nat_lt}
 use Rattle.std.specs.Option.{option_map}
 use Rattle.answers.specs.declared.Refusal.{Refusal}
-use Rattle.answers.specs.declared.Refusal.TheVariants.{NoAccount, NoItem, NoQuantity, OverFree, NoTrade, StrayField, UnknownKind, SameParties, EverEntered, WrongState}
 use Rattle.answers.specs.declared.Fault.{Fault}
 use Rattle.answers.specs.Faults.{plain, of_trade}
 use Rattle.instruction.specs.declared.Kind.TheVariants.{Issue, PayIn, Enter, Earmark, Fund, Settle, Free}
@@ -65,34 +64,34 @@ stray (Some Free) x = past_trade x
 stray None x = false
 
 -- the trade's number, then its state
-abbrev pub trade_checks : Act → Refusal → State → Instruction → List Check → List Check
-trade_checks k r o x cs = leb 128 x.trade refuses NoTrade ∷ not (starts k o) refuses r ∷ cs
+abbrev pub trade_checks : Act → ℕ → State → Instruction → List Check → List Check
+trade_checks k n o x cs = leb 128 x.trade refuses 30 ∷ not (starts k o) refuses n ∷ cs
 
 abbrev pub enough_free : Side → Terms → Standing → Check
-enough_free d m s = nat_lt ((s.book d).free (giver d m) (asset d m)) (volume d m) refuses OverFree
+enough_free d m s = nat_lt ((s.book d).free (giver d m) (asset d m)) (volume d m) refuses 25
 
 module _ (h : Rulebook) where
   -- what an Enter is checked for, once its trade may be entered
   abbrev pub enter_checks : Instruction → List Check
   enter_checks x =
-      nat_eq x.account x.counterparty refuses SameParties
-      ∷ (nat_le 64 x.account || nat_le 64 x.counterparty) refuses NoAccount
-      ∷ (nat_le (h.kind securities).items x.item || nat_le (h.kind cash).items x.currency) refuses NoItem
-      ∷ (x.quantity == 0 || x.amount == 0) refuses NoQuantity ∷ []
+      nat_eq x.account x.counterparty refuses 33
+      ∷ (nat_le 64 x.account || nat_le 64 x.counterparty) refuses 21
+      ∷ (nat_le (h.kind securities).items x.item || nat_le (h.kind cash).items x.currency) refuses 22
+      ∷ (x.quantity == 0 || x.amount == 0) refuses 23 ∷ []
 
   -- the checks of each kind, the trade being in state o on terms m
   abbrev pub checks_of : Act → State → Terms → Standing → Instruction → List Check
   checks_of (Some Issue) o m s x = checks (h.kind securities) (s.book securities) (crediting x.account x.item x.quantity)
   checks_of (Some PayIn) o m s x = checks (h.kind cash) (s.book cash) (crediting x.account x.currency x.amount)
-  checks_of (Some Enter) o m s x = trade_checks (Some Enter) EverEntered o x (enter_checks x)
-  checks_of (Some Earmark) o m s x = trade_checks (Some Earmark) WrongState o x (enough_free securities m s ∷ [])
-  checks_of (Some Fund) o m s x = trade_checks (Some Fund) WrongState o x (enough_free cash m s ∷ [])
-  checks_of (Some Settle) o m s x = trade_checks (Some Settle) WrongState o x []
-  checks_of (Some Free) o m s x = trade_checks (Some Free) WrongState o x []
+  checks_of (Some Enter) o m s x = trade_checks (Some Enter) 34 o x (enter_checks x)
+  checks_of (Some Earmark) o m s x = trade_checks (Some Earmark) 35 o x (enough_free securities m s ∷ [])
+  checks_of (Some Fund) o m s x = trade_checks (Some Fund) 35 o x (enough_free cash m s ∷ [])
+  checks_of (Some Settle) o m s x = trade_checks (Some Settle) 35 o x []
+  checks_of (Some Free) o m s x = trade_checks (Some Free) 35 o x []
   checks_of None o m s x = []
 
   abbrev pub all_checks : Act → State → Terms → Standing → Instruction → List Check
-  all_checks k o m s x = not (known h k) refuses UnknownKind ∷ stray k x refuses StrayField ∷ checks_of k o m s x
+  all_checks k o m s x = not (known h k) refuses 32 ∷ stray k x refuses 31 ∷ checks_of k o m s x
 
   -- the answer to an instruction of this kind, and of the kind that its kind byte says
   abbrev pub answer_as : Act → Standing → Instruction → Result (Unit {0}) Refusal

@@ -3,7 +3,7 @@ use Rattle.std.specs.Prelude.{◌≡◌, ℕ, zero, suc, ◌^◌, ◌<◌, ◌�
 use Rattle.std.specs.Bool.{then_some}
 use Rattle.std.specs.List.{flat_map, AllByRecursion}
 use Rattle.answers.specs.declared.Refusal.{Refusal}
-use Rattle.answers.specs.declared.Refusal.TheVariants.{UnlistedLine}
+use Rattle.answers.specs.Numbers.{numbered, number_of}
 use Rattle.instruction.specs.declared.Kind.{Kind}
 use Rattle.instruction.specs.declared.Kind.TheVariants.{Issue, PayIn, Enter, Earmark, Fund, Settle, Free}
 use Rattle.instruction.specs.declared.Instruction.{Instruction}
@@ -131,7 +131,7 @@ request_of bs = request_after (first_word bs) (after bs)
 
 abbrev pub listed : Option Request → Result Request Refusal
 listed (Some q) = Ok q
-listed None = Err UnlistedLine
+listed None = Err (numbered 71)
 
 -- what a line is read as
 unfoldable pub request_in : List ℕ → Result Request Refusal
@@ -205,4 +205,4 @@ WellFormed (Cut x) = IsCut x
 -- what reading a line answers: the well-formed request that the line is the text of, or that there is none
 abbrev pub ReadsLine : List ℕ → Result Request Refusal → Type 0
 ReadsLine bs (Ok q) = WellFormed q × (written q ≡ bs)
-ReadsLine bs (Err r) = (r ≡ UnlistedLine) × ((q : Request) → WellFormed q → written q ≢ bs)
+ReadsLine bs (Err r) = (number_of r ≡ 71) × ((q : Request) → WellFormed q → written q ≢ bs)
