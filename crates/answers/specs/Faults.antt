@@ -29,4 +29,5 @@ of_trade t f = record { refusal = f.refusal; block = f.block; entry = f.entry; t
 
 -- the rules refuse the record of entry k, by the fault f
 abbrev pub of_record : ℕ → Fault → Fault
-of_record k f = record { refusal = numbered 47; block = None; entry = Some k; trade = f.trade; rule = Some f.refusal }
+of_record k f =
+    record { refusal = numbered 47; block = None; entry = Some k; trade = f.trade; rule = Some f.refusal }

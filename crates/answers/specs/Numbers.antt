@@ -1,4 +1,4 @@
--- The refusals' numbers and places, as operators know them. Assumes nothing.
+-- The refusals' numbers and places, as operators know them.
 use Rattle.std.specs.Prelude.{◌≡◌, ℕ, true, cond, List, [], ◌∷◌, Ok, Err, Result, ◌==◌}
 use Rattle.std.specs.List.{AllByRecursion, list_any}
 use Rattle.answers.specs.declared.Fault.{Fault}
@@ -50,20 +50,23 @@ number_of InputTooLong = 73
 -- the refusal with this number; a format without room, 61, also for a number that no refusal has
 abbrev pub numbered : ℕ → Refusal
 numbered n =
-    cond (n == 11) NoBlock (cond (n == 12) NotABlock (cond (n == 13) NoCalls (cond (n == 14) Unreadable
+    cond (n == 11) NoBlock (cond (n == 12) NotABlock
+    (cond (n == 13) NoCalls (cond (n == 14) Unreadable
     (cond (n == 21) NoAccount (cond (n == 22) NoItem (cond (n == 23) NoQuantity
     (cond (n == 24) OverCeiling (cond (n == 25) OverFree (cond (n == 26) OverBlocked
-    (cond (n == 30) NoTrade (cond (n == 31) StrayField (cond (n == 32) UnknownKind
-    (cond (n == 33) SameParties (cond (n == 34) EverEntered (cond (n == 35) WrongState (cond (n == 36) JournalFull
-    (cond (n == 41) OpeningRefused (cond (n == 42) EngineDown (cond (n == 43) NotAHeader
-    (cond (n == 44) OtherKinds (cond (n == 45) TooFewBlocks (cond (n == 46) Malformed (cond (n == 47) RulesRefuse
+    (cond (n == 30) NoTrade (cond (n == 31) StrayField
+    (cond (n == 32) UnknownKind (cond (n == 33) SameParties
+    (cond (n == 34) EverEntered (cond (n == 35) WrongState (cond (n == 36) JournalFull
+    (cond (n == 41) OpeningRefused (cond (n == 42) EngineDown
+    (cond (n == 43) NotAHeader (cond (n == 44) OtherKinds
+    (cond (n == 45) TooFewBlocks (cond (n == 46) Malformed (cond (n == 47) RulesRefuse
     (cond (n == 71) UnlistedLine (cond (n == 73) InputTooLong NoRoom)))))))))))))))))))))))))
 
 -- all of the numbers
 abbrev pub numbers : List ℕ
 numbers =
-    11 ∷ 12 ∷ 13 ∷ 14 ∷ 21 ∷ 22 ∷ 23 ∷ 24 ∷ 25 ∷ 26 ∷ 30 ∷ 31 ∷ 32 ∷ 33 ∷ 34 ∷ 35 ∷ 36 ∷ 41 ∷ 42
-    ∷ 43 ∷ 44 ∷ 45 ∷ 46 ∷ 47 ∷ 61 ∷ 71 ∷ 73 ∷ []
+    11 ∷ 12 ∷ 13 ∷ 14 ∷ 21 ∷ 22 ∷ 23 ∷ 24 ∷ 25 ∷ 26 ∷ 30 ∷ 31 ∷ 32 ∷ 33 ∷ 34 ∷ 35 ∷ 36
+    ∷ 41 ∷ 42 ∷ 43 ∷ 44 ∷ 45 ∷ 46 ∷ 47 ∷ 61 ∷ 71 ∷ 73 ∷ []
 
 -- the number of an answer: 0 for yes, else the refusal's
 abbrev pub answer_number : Result (Unit {0}) Refusal → ℕ

@@ -23,10 +23,18 @@ first (c ∷ cs) = cond c.fails (Err c.refusal) (first cs)
 module _ (k : BookKind) (b : Holdings) where
   abbrev pub checks : Deed → List Check
   checks keep = []
-  checks (crediting A I q) = leb 64 A refuses 21 ∷ leb k.items I refuses 22 ∷ nat_eq q 0 refuses 23 ∷ ltb (limit k b I) (total b I + q) refuses 24 ∷ []
-  checks (blocking A I q) = leb 64 A refuses 21 ∷ leb k.items I refuses 22 ∷ nat_eq q 0 refuses 23 ∷ ltb (b.free A I) q refuses 25 ∷ []
-  checks (releasing A I q) = leb 64 A refuses 21 ∷ leb k.items I refuses 22 ∷ nat_eq q 0 refuses 23 ∷ ltb (b.blocked A I) q refuses 26 ∷ []
-  checks (moving A B I q) = (nat_le 64 A || nat_le 64 B) refuses 21 ∷ leb k.items I refuses 22 ∷ nat_eq q 0 refuses 23 ∷ ltb (b.blocked A I) q refuses 26 ∷ []
+  checks (crediting A I q) =
+      leb 64 A refuses 21 ∷ leb k.items I refuses 22 ∷ nat_eq q 0 refuses 23
+      ∷ ltb (limit k b I) (total b I + q) refuses 24 ∷ []
+  checks (blocking A I q) =
+      leb 64 A refuses 21 ∷ leb k.items I refuses 22 ∷ nat_eq q 0 refuses 23
+      ∷ ltb (b.free A I) q refuses 25 ∷ []
+  checks (releasing A I q) =
+      leb 64 A refuses 21 ∷ leb k.items I refuses 22 ∷ nat_eq q 0 refuses 23
+      ∷ ltb (b.blocked A I) q refuses 26 ∷ []
+  checks (moving A B I q) =
+      (nat_le 64 A || nat_le 64 B) refuses 21 ∷ leb k.items I refuses 22 ∷ nat_eq q 0 refuses 23
+      ∷ ltb (b.blocked A I) q refuses 26 ∷ []
 
   abbrev pub ruling : Deed → Result (Unit {0}) Refusal
   ruling w = first (checks w)
@@ -46,7 +54,8 @@ covering n q short = cond (q == 0) (Err (numbered 23)) (cond (nat_lt n q) (Err s
 
 -- a question of an amount
 abbrev pub asked : {X : Type 0} → BookKind → (ℕ → ℕ → X) → ℕ → ℕ → Result X Refusal
-asked k f a i = cond (nat_le 64 a) (Err (numbered 21)) (cond (nat_le k.items i) (Err (numbered 22)) (Ok (f a i)))
+asked k f a i =
+    cond (nat_le 64 a) (Err (numbered 21)) (cond (nat_le k.items i) (Err (numbered 22)) (Ok (f a i)))
 
 -- free and blocked of nothing
 abbrev pub no_holding : Holding
