@@ -9,6 +9,9 @@ ghost use Rattle.rulebook.specs.Rules.{turned_trade, about as about_trade};
 use answers::Fault;
 use instruction::{Instruction, Kind};
 
+// How many trades there are, numbered from 0.
+pub const TRADES: usize = 128;
+
 #[derive(Clone, Copy, Debug, PartialEq, Eq)]
 pub enum State {
     Unentered,
