@@ -6,6 +6,7 @@ use Rattle.answers.specs.declared.Fault.{Fault}
 use Rattle.instruction.specs.declared.Kind.{Kind}
 use Rattle.instruction.specs.declared.Instruction.{Instruction}
 use Rattle.book.specs.declared.Book as book
+use Rattle.book.specs.declared.TheConstants.{ACCOUNTS}
 use Rattle.book.specs.declared.Holding.{Holding}
 use Rattle.book.specs.Holdings.{Holdings, BookKind}
 use Rattle.book.specs.Rulings.{no_holding, asked, holding_at, outcome}
@@ -40,7 +41,7 @@ abbrev pub holdings_in : Table → Holdings
 holdings_in t = record { free = λ a i. (holding_in t a i).free; blocked = λ a i. (holding_in t a i).blocked }
 
 unfoldable pub table_of : BookKind → Holdings → Table
-table_of k b = map (λ a. map (holding_at b a) (range_with_len 0 k.items)) (range_with_len 0 64)
+table_of k b = map (λ a. map (holding_at b a) (range_with_len 0 k.items)) (range_with_len 0 ACCOUNTS)
 
 -- a ledger, as a contract sees it
 pub record Tables : Type 0 where

@@ -1,5 +1,5 @@
 -- The rule book: what an instruction is answered, and what an accepted one changes. Assumes nothing.
-use Rattle.std.specs.Prelude.{◌≡◌, ℕ, Bool, true, false, cond, not, ◌||◌, T, leb, List, [], ◌∷◌, ◌++◌, Some, None, Ok, Err, Option, Result, ◌==◌, nat_eq, nat_le, nat_lt}
+use Rattle.std.specs.Prelude.{◌≡◌, ℕ, ◌≤◌, Bool, true, false, cond, not, ◌||◌, T, leb, List, [], ◌∷◌, ◌++◌, Some, None, Ok, Err, Option, Result, ◌==◌, nat_eq, nat_le, nat_lt}
 use Rattle.std.specs.Option.{option_map}
 use Rattle.answers.specs.declared.Refusal.{Refusal}
 use Rattle.answers.specs.declared.Fault.{Fault}
@@ -7,8 +7,10 @@ use Rattle.answers.specs.Faults.{plain, of_trade}
 use Rattle.instruction.specs.declared.Kind.TheVariants.{Issue, PayIn, Enter, Earmark, Fund, Settle, Free}
 use Rattle.instruction.specs.declared.Instruction.{Instruction}
 use Rattle.instruction.specs.Kinds.{kind_at}
+use Rattle.book.specs.declared.TheConstants.{ACCOUNTS}
 use Rattle.book.specs.Holdings.{Holdings, BookKind, nothing, Deed, keep, crediting, blocking, releasing, moving, apply}
 use Rattle.book.specs.Rulings.{Check, ◌refuses◌, first, checks, on_ok}
+use Rattle.rulebook.specs.declared.TheConstants.{TRADES}
 use Rattle.rulebook.specs.declared.State.{State}
 use Rattle.rulebook.specs.declared.State.TheVariants.{Unentered, Earmarked, Funded, Settled}
 use Rattle.rulebook.specs.declared.Terms.{Terms}
@@ -65,7 +67,7 @@ stray None x = false
 
 -- the trade's number, then its state
 abbrev pub trade_checks : Act → ℕ → State → Instruction → List Check → List Check
-trade_checks k n o x cs = leb 128 x.trade refuses 30 ∷ not (starts k o) refuses n ∷ cs
+trade_checks k n o x cs = leb TRADES x.trade refuses 30 ∷ not (starts k o) refuses n ∷ cs
 
 abbrev pub enough_free : Side → Terms → Standing → Check
 enough_free d m s = nat_lt ((s.book d).free (giver d m) (asset d m)) (volume d m) refuses 25
@@ -75,7 +77,7 @@ module _ (h : Rulebook) where
   abbrev pub enter_checks : Instruction → List Check
   enter_checks x =
       nat_eq x.account x.counterparty refuses 33
-      ∷ (nat_le 64 x.account || nat_le 64 x.counterparty) refuses 21
+      ∷ (nat_le ACCOUNTS x.account || nat_le ACCOUNTS x.counterparty) refuses 21
       ∷ (nat_le (h.kind securities).items x.item || nat_le (h.kind cash).items x.currency) refuses 22
       ∷ (x.quantity == 0 || x.amount == 0) refuses 23 ∷ []
 
@@ -117,6 +119,15 @@ OfTrade k = T (names_trade k)
 -- its fault says which
 abbrev pub about : Instruction → Fault → Fault
 about x f = cond (names_trade (kind_at x.kind)) (of_trade x.trade f) f
+
+-- By the kind bytes: at 3 to 7 the fault names the trade, and is as it was in all else; at any other it is as it was.
+pub record IsAbout (x : Instruction) (f about-x : Fault) : Type 0 where
+  pub named : 3 ≤ x.kind → x.kind ≤ 7 → about-x.trade ≡ Some x.trade
+  pub refusal : about-x.refusal ≡ f.refusal
+  pub block : about-x.block ≡ f.block
+  pub entry : about-x.entry ≡ f.entry
+  pub rule : about-x.rule ≡ f.rule
+  pub other : (3 ≤ x.kind → x.kind ≤ 7 → ⊥) → about-x.trade ≡ f.trade
 
 -- so does its refusal
 abbrev pub fault_of : Instruction → Refusal → Fault
