@@ -24,7 +24,14 @@ abbrev pub Decodes : ℕ → Result Kind Refusal → Type 0
 Decodes n (Ok k) = kind_at n ≡ Some k
 Decodes n (Err r) = (kind_at n ≡ None) × (number_of r ≡ 32)
 
--- a kind is read off its own code, and off no other
+-- The kinds by their numbers; and a kind is read off its own code, and off no other.
 pub record KindsAndCodes : Type 0 where
+  pub issue : kind_at 1 ≡ Some Issue
+  pub pay-in : kind_at 2 ≡ Some PayIn
+  pub enter : kind_at 3 ≡ Some Enter
+  pub earmark : kind_at 4 ≡ Some Earmark
+  pub fund : kind_at 5 ≡ Some Fund
+  pub settle : kind_at 6 ≡ Some Settle
+  pub free : kind_at 7 ≡ Some Free
   pub own : (k : Kind) → kind_at (code_of k) ≡ Some k
   pub only : (n : ℕ) (k : Kind) → kind_at n ≡ Some k → n ≡ code_of k

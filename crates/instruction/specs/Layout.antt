@@ -1,5 +1,5 @@
 -- An instruction as 32 bytes, both ways. Assumes nothing.
-use Rattle.std.specs.Prelude.{◌≡◌, ℕ, ◌^◌, ◌<◌, Bool, cond, ◌&&◌, List, ◌∷◌, ◌++◌, length, Ok, Err, Result, ◌==◌, slice_index, slice_index_or}
+use Rattle.std.specs.Prelude.{◌≡◌, ℕ, ◌+◌, ◌/◌, ◌%◌, ◌^◌, ◌<◌, Bool, cond, ◌&&◌, List, ◌∷◌, ◌++◌, length, Ok, Err, Result, ◌==◌, slice_index, slice_index_or}
 use Rattle.little_endian.specs.Little.{le, bytes, part}
 use Rattle.answers.specs.declared.Refusal.{Refusal}
 use Rattle.answers.specs.Numbers.{numbered, number_of}
@@ -51,9 +51,25 @@ pub record IsInstruction (bs : List ℕ) : Type 0 where
   pub ten : slice_index_or bs 10 0 ≡ 0
   pub eleven : slice_index_or bs 11 0 ≡ 0
 
+-- the number n lies in the w bytes from place `at` on, the lowest byte first
+abbrev pub Lies : List ℕ → ℕ → ℕ → ℕ → Type 0
+Lies bs at w n = (k : ℕ) → k < w → slice_index_or bs (at + k) 0 ≡ (n / (2 ^ 8) ^ k) % 2 ^ 8
+
+-- The layout, place by place, in words of its own.
+pub record LaidOut (bs : List ℕ) (i : Instruction) : Type 0 where
+  pub whole : IsInstruction bs
+  pub kind : slice_index_or bs 0 0 ≡ i.kind
+  pub account : Lies bs 2 2 i.account
+  pub counterparty : Lies bs 4 2 i.counterparty
+  pub item : Lies bs 6 2 i.item
+  pub currency : Lies bs 8 2 i.currency
+  pub trade : Lies bs 12 4 i.trade
+  pub quantity : Lies bs 16 8 i.quantity
+  pub amount : Lies bs 24 8 i.amount
+
 -- what reading answers: the one instruction that has these bytes, or that there is none
 abbrev pub Reads : List ℕ → Result Instruction Refusal → Type 0
-Reads bs (Ok i) = IsInstruction bs × (bytes_of i ≡ bs)
+Reads bs (Ok i) = LaidOut bs i × (bytes_of i ≡ bs)
 Reads bs (Err r) = (number_of r ≡ 46) × (IsInstruction bs → ⊥)
 
 -- each field fits its width, as every instruction that the code holds does

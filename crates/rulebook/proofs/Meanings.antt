@@ -50,12 +50,16 @@ touched x f t o =
   where
     entered-after : After 3 Entered
     entered-after = record { entered = λ e. refl; earmarked = λ e. absurd (omega arith); funded = λ e. absurd (omega arith); settled = λ e. absurd (omega arith); freed = λ e. absurd (omega arith) }
+
     earmarked-after : After 4 Earmarked
     earmarked-after = record { entered = λ e. absurd (omega arith); earmarked = λ e. refl; funded = λ e. absurd (omega arith); settled = λ e. absurd (omega arith); freed = λ e. absurd (omega arith) }
+
     funded-after : After 5 Funded
     funded-after = record { entered = λ e. absurd (omega arith); earmarked = λ e. absurd (omega arith); funded = λ e. refl; settled = λ e. absurd (omega arith); freed = λ e. absurd (omega arith) }
+
     settled-after : After 6 Settled
     settled-after = record { entered = λ e. absurd (omega arith); earmarked = λ e. absurd (omega arith); funded = λ e. absurd (omega arith); settled = λ e. refl; freed = λ e. absurd (omega arith) }
+
     freed-after : After 7 Freed
     freed-after = record { entered = λ e. absurd (omega arith); earmarked = λ e. absurd (omega arith); funded = λ e. absurd (omega arith); settled = λ e. absurd (omega arith); freed = λ e. refl }
 
