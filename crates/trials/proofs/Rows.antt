@@ -14,6 +14,7 @@ use Rattle.balances.specs.Rows.{balances_kind}
 use Rattle.lots.specs.Owners.{lots_kind}
 use Rattle.journal.specs.Blocks.{zeros, is_mark}
 use Rattle.instruction.specs.Layout.{on_trade}
+use Rattle.trials.proofs.Settled.{settled}
 use Rattle.trials.specs.Marked.{entering, MarkedTrials}
 
 nothing-in-all : (i : ℕ) → total nothing i ≡ 0
@@ -64,6 +65,7 @@ marked-trials = record {
   earmark-bytes = refl;
   same-parties = same-parties;
   settle-too-early = settle-too-early;
+  settlement = settled;
   mark-bytes = refl;
   zeros-no-mark = zeros-no-mark;
 }

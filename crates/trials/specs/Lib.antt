@@ -1,1 +1,2 @@
+pub mod Settlement
 pub mod Marked

@@ -13,6 +13,7 @@ use Rattle.rulebook.specs.declared.State.TheVariants.{Earmarked}
 use Rattle.rulebook.specs.Rules.{Rulebook, Standing, empty, answer}
 use Rattle.journal.specs.Blocks.{zeros, mark_bytes, is_mark}
 use Rattle.trials.specs.declared.Outcomes.{Outcomes}
+use Rattle.trials.specs.Settlement.{after_trade_7, EightAmounts, eight_amounts}
 
 abbrev pub entering : ℕ → ℕ → ℕ → ℕ → ℕ → ℕ → ℕ → Instruction
 entering seller buyer item currency trade quantity amount =
@@ -40,6 +41,8 @@ pub record MarkedTrials : Type 0 where
   pub same-parties : (h : Rulebook) (item currency trade quantity amount : ℕ) → trade < 128 → answer_number (answer h empty (entering 70 70 item currency trade quantity amount)) ≡ 33
   -- a trade that is earmarked and not funded is not settled
   pub settle-too-early : (h : Rulebook) (s : Standing) (t : ℕ) → t < 128 → s.state t ≡ Earmarked → answer_number (answer h s (on_trade Settle t)) ≡ 35
+  -- a trade settled: what the seller and the buyer have then
+  pub settlement : EightAmounts after_trade_7
   pub mark-bytes : mark_bytes 0 ≡ first_mark
   -- a block of zeros is the good mark of no entry
   pub zeros-no-mark : (k : ℕ) → is_mark k zeros ≡ false
@@ -54,6 +57,7 @@ expected = record {
   credit_of_two = 24;
   earmark_bytes = earmark7;
   same_parties = 33;
+  settlement = eight_amounts;
   first_mark = first_mark;
   zeros_are_a_mark = false;
 }
