@@ -6,7 +6,7 @@ use Rattle.std.proofs.lemmas.List.FromFn.{sum_by-map-range_with_len_more}
 use Rattle.book.specs.Sums.{up_to, only, here}
 use Rattle.book.proofs.Sums.{up_to-same}
 use Rattle.rulebook.specs.declared.State.{State}
-use Rattle.rulebook.specs.declared.State.TheVariants.{Unentered, Entered, Earmarked, Funded, Settled, Freed}
+use Rattle.rulebook.specs.declared.State.TheVariants.{Earmarked, Funded, Settled}
 use Rattle.rulebook.specs.declared.Terms.{Terms}
 use Rattle.rulebook.specs.Terms.{Side, securities, cash}
 use Rattle.rulebook.specs.Tally.{trades, counted, gift, receipt, hold}
@@ -36,21 +36,21 @@ module _ (a i : ℕ) where
   counted-is A I q = both (eqb A a) (eqb I i) q
 
   gift-is : (d : Side) (o : State) (m : Terms) → gift a i d o m ≡ give_of d a i o m
-  gift-is securities Settled m = counted-is m.seller m.item m.quantity
-  gift-is cash Settled m = counted-is m.buyer m.currency m.amount
+  gift-is securities Settled m = search counted-is
+  gift-is cash Settled m = search counted-is
   gift-is securities o m = refl
   gift-is cash o m = refl
 
   receipt-is : (d : Side) (o : State) (m : Terms) → receipt a i d o m ≡ take_of d a i o m
-  receipt-is securities Settled m = counted-is m.buyer m.item m.quantity
-  receipt-is cash Settled m = counted-is m.seller m.currency m.amount
+  receipt-is securities Settled m = search counted-is
+  receipt-is cash Settled m = search counted-is
   receipt-is securities o m = refl
   receipt-is cash o m = refl
 
   hold-is : (d : Side) (o : State) (m : Terms) → hold a i d o m ≡ hold_of d a i o m
-  hold-is securities Earmarked m = counted-is m.seller m.item m.quantity
-  hold-is securities Funded m = counted-is m.seller m.item m.quantity
-  hold-is cash Funded m = counted-is m.buyer m.currency m.amount
+  hold-is securities Earmarked m = search counted-is
+  hold-is securities Funded m = search counted-is
+  hold-is cash Funded m = search counted-is
   hold-is securities o m = refl
   hold-is cash o m = refl
 

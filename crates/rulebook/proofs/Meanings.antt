@@ -9,9 +9,9 @@ use Rattle.book.specs.Rulings.{first}
 use Rattle.rulebook.specs.declared.State.{State}
 use Rattle.rulebook.specs.declared.State.TheVariants.{Entered, Earmarked, Funded, Settled, Freed}
 use Rattle.rulebook.specs.declared.Terms.{Terms}
-use Rattle.rulebook.specs.Table.{Act, after, starts, next, Steps}
+use Rattle.rulebook.specs.Table.{after, starts, next, Steps}
 use Rattle.rulebook.specs.Terms.{terms_of}
-use Rattle.rulebook.specs.Rules.{Rulebook, Standing, all_checks, answer, at, turned, effect, OfTrade}
+use Rattle.rulebook.specs.Rules.{Rulebook, Standing, all_checks, answer, at, turned, effect}
 use Rattle.rulebook.specs.Words.{On, EnterOn, Never, Last, After, Stated, LastWords}
 use Rattle.rulebook.proofs.Bytes.{by-byte}
 use Rattle.rulebook.proofs.Replay.{read_state, read_terms}
@@ -92,7 +92,7 @@ terms-x [] zs f x t o h = terms-stay zs (read_terms f x) t h ∙ terms-set f x t
 terms-x (y ∷ xs) zs f x t o h = terms-x xs zs (read_terms f y) x t o h
 
 stated : (x : Instruction) → Stated x (terms_of x)
-stated x = record { seller = refl; buyer = refl; item = refl; currency = refl; quantity = refl; amount = refl }
+stated x = search
 
 pub stated-last : (xs : List Instruction) (f : ℕ → Terms) (x : Instruction) (t : ℕ) → Last (EnterOn t) x xs → Stated x (fold read_terms f xs t)
 stated-last xs f x t l =

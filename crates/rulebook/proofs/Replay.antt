@@ -1,5 +1,5 @@
 -- A list of instructions read from left to right, and its sums by the rules' own words. Assumes nothing.
-use Rattle.std.proofs.Common.{ℕ, List, fold, eqb}
+use Rattle.std.proofs.Common.{ℕ, List, fold}
 use Rattle.instruction.specs.declared.Instruction.{Instruction}
 use Rattle.instruction.specs.Kinds.{kind_at}
 use Rattle.book.specs.Sums.{up_to, only, here}

@@ -11,7 +11,7 @@ use Rattle.rulebook.specs.Terms.{no_terms, Side, securities, cash}
 use Rattle.rulebook.specs.Rules.{Rulebook, Standing, turned, is_enter, terms_after, Runs, start, more}
 use Rattle.rulebook.proofs.Replay.{read_state, state_in, read_terms, terms_in, give_of, take_of, hold_of}
 use Rattle.rulebook.specs.Tally.{credit, credits}
-use Rattle.rulebook.proofs.Fields.{counted-is, given-is, received-is, held-is}
+use Rattle.rulebook.proofs.Fields.{given-is, received-is, held-is}
 use Rattle.rulebook.proofs.Meanings.{stay, after-last, stated-last}
 use Rattle.rulebook.specs.Words.{After, Stated}
 use Rattle.rulebook.specs.Law.{LawOfTheLedger}
