@@ -87,7 +87,7 @@ fn same_parties() -> u8
     fault_number(ledger.judge(&x))
 }
 
-// Account 1 sells 30 of item 3 to account 2 for 2,000 of currency 4, from the Issue and the Pay in to the Settle.
+// Account 1 sells 100 of item 3 to account 2 for 2,000 of currency 4, from the Issue and the Pay in to the Settle.
 fn settle_a_trade() -> Settlement
     ensures { result ≡ eight_amounts }
 {
@@ -110,7 +110,7 @@ fn settle_a_trade() -> Settlement
         item: 3,
         currency: 4,
         trade: 7,
-        quantity: 30,
+        quantity: 100,
         amount: 2000,
         ..Instruction::of_kind(Kind::Enter)
     };

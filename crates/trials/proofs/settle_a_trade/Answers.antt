@@ -10,7 +10,7 @@ pub returns : goal.returns
 returns c =
     let issue : Instruction → Instruction = λ x. record { kind = x.kind; account = 1; counterparty = x.counterparty; item = 3; currency = x.currency; trade = x.trade; quantity = 100; amount = x.amount } in
     let pay-in : Instruction → Instruction = λ x. record { kind = x.kind; account = 2; counterparty = x.counterparty; item = x.item; currency = 4; trade = x.trade; quantity = x.quantity; amount = 5000 } in
-    let enter : Instruction → Instruction = λ x. record { kind = x.kind; account = 1; counterparty = 2; item = 3; currency = 4; trade = 7; quantity = 30; amount = 2000 } in
+    let enter : Instruction → Instruction = λ x. record { kind = x.kind; account = 1; counterparty = 2; item = 3; currency = 4; trade = 7; quantity = 100; amount = 2000 } in
     let one = led c.instruct.ensures.after c.new-ledger.ensures (ap issue c.of_kind.ensures) in
     let two = led c.instruct-2.ensures.after one (ap pay-in c.of_kind-2.ensures) in
     let three = led c.instruct-3.ensures.after two (ap enter c.of_kind-3.ensures) in
