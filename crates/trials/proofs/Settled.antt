@@ -9,9 +9,9 @@ use Rattle.rulebook.specs.Terms.{Side, securities, cash}
 use Rattle.rulebook.specs.Rules.{Rulebook, Standing, step}
 use Rattle.rulebook.specs.Law.{Given}
 use Rattle.trials.specs.declared.Settlement.{Settlement}
-use Rattle.trials.specs.Settlement.{after_trade_7, EightAmounts, eight_amounts}
+use Rattle.trials.specs.ByHand.{trade_7, after_all, EightAmounts, eight_amounts, AnsweredByHand}
 
-pub settled : EightAmounts after_trade_7
+pub settled : EightAmounts (after_all trade_7)
 unfolding up_to
 settled = record {
   seller-item-free = refl;
@@ -24,13 +24,17 @@ settled = record {
   buyer-currency-blocked = refl;
 }
 
+pub answered-by-hand : AnsweredByHand
+unfolding up_to
+answered-by-hand = refl
+
 -- where an instruction leads from a standing that is known
 pub led : {h : Rulebook} {s t u : Standing} {x y : Instruction} → Given h s t x → s ≡ u → x ≡ y → t ≡ step h u y
 led {h} {s} {t} {u} {x} {y} g e f = g.after ∙ ap (λ s. step h s x) e ∙ ap (λ x. step h u x) f
 
 -- what a question answers after the settlement
-pub answered : (d : Side) (a i : ℕ) (s : Standing) {r : Result Holding Refusal} → s ≡ after_trade_7
-    → r ≡ Ok (holding_at (s.book d) a i) → r ≡ Ok (holding_at (after_trade_7.book d) a i)
+pub answered : (d : Side) (a i : ℕ) (s : Standing) {r : Result Holding Refusal} → s ≡ after_all trade_7
+    → r ≡ Ok (holding_at (s.book d) a i) → r ≡ Ok (holding_at ((after_all trade_7).book d) a i)
 answered d a i s e f = f ∙ ap (λ (s : Standing). Ok (holding_at (s.book d) a i)) e
 
 -- the eight amounts as the code answers them
@@ -42,7 +46,7 @@ answered_after s = record {
   buyer_currency = holding_at (s.book cash) 2 4;
 }
 
-pub eight : answered_after after_trade_7 ≡ eight_amounts
+pub eight : answered_after (after_all trade_7) ≡ eight_amounts
 eight = λ k. record {
   seller_item = record { free = settled.seller-item-free k; blocked = settled.seller-item-blocked k };
   buyer_item = record { free = settled.buyer-item-free k; blocked = settled.buyer-item-blocked k };

@@ -1,2 +1,2 @@
-pub mod Settlement
+pub mod ByHand
 pub mod Marked

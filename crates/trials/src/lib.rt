@@ -7,7 +7,7 @@ ghost use Rattle.book.specs.Holdings.{nothing, crediting};
 ghost use Rattle.book.specs.Rulings.{ruling};
 ghost use Rattle.lots.specs.Owners.{lots_kind};
 ghost use Rattle.trials.specs.Marked.{earmark7, expected, MarkedTrials};
-ghost use Rattle.trials.specs.Settlement.{eight_amounts};
+ghost use Rattle.trials.specs.ByHand.{eight_amounts};
 
 use answers::{answer_number, fault_number};
 use balances::Balances;
