@@ -16,8 +16,9 @@ code_of Free = 7
 
 abbrev pub kind_at : ℕ → Option Kind
 kind_at n =
-    cond (n == 1) (Some Issue) (cond (n == 2) (Some PayIn) (cond (n == 3) (Some Enter) (cond (n == 4) (Some Earmark)
-    (cond (n == 5) (Some Fund) (cond (n == 6) (Some Settle) (cond (n == 7) (Some Free) None))))))
+    cond (n == 1) (Some Issue) (cond (n == 2) (Some PayIn) (cond (n == 3) (Some Enter)
+    (cond (n == 4) (Some Earmark) (cond (n == 5) (Some Fund) (cond (n == 6) (Some Settle)
+    (cond (n == 7) (Some Free) None))))))
 
 -- reading a kind byte gives the kind that it means, or is refused where it means none
 abbrev pub Decodes : ℕ → Result Kind Refusal → Type 0

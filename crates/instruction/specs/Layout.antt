@@ -7,20 +7,29 @@ use Rattle.instruction.specs.declared.Kind.{Kind}
 use Rattle.instruction.specs.declared.Instruction.{Instruction}
 use Rattle.instruction.specs.Kinds.{code_of}
 
--- an instruction of a kind, with 0 in each other field
-abbrev pub of_kind : Kind → Instruction
-of_kind k = record { kind = code_of k; account = 0; counterparty = 0; item = 0; currency = 0; trade = 0; quantity = 0; amount = 0 }
-
--- and one that names a trade and nothing else
+-- an instruction of a kind that names a trade, with 0 in each other field
 abbrev pub on_trade : Kind → ℕ → Instruction
-on_trade k t = record { kind = code_of k; account = 0; counterparty = 0; item = 0; currency = 0; trade = t; quantity = 0; amount = 0 }
+on_trade k t = record {
+  kind = code_of k;
+  account = 0;
+  counterparty = 0;
+  item = 0;
+  currency = 0;
+  trade = t;
+  quantity = 0;
+  amount = 0;
+}
 
--- byte 0 the kind, byte 1 zero, then the account, the counterparty, the item and the currency in two bytes each,
--- bytes 10 and 11 zero, the trade in four bytes, the quantity and the amount in eight each
+-- and one with 0 in the trade too
+abbrev pub of_kind : Kind → Instruction
+of_kind k = on_trade k 0
+
+-- byte 0 the kind, byte 1 zero, then the account, the counterparty, the item and the currency in two
+-- bytes each, bytes 10 and 11 zero, the trade in four bytes, the quantity and the amount in eight each
 abbrev pub bytes_of : Instruction → List ℕ
 bytes_of i =
-    i.kind ∷ 0 ∷ (bytes 2 i.account ++ (bytes 2 i.counterparty ++ (bytes 2 i.item ++ (bytes 2 i.currency
-    ++ (0 ∷ 0 ∷ (bytes 4 i.trade ++ (bytes 8 i.quantity ++ bytes 8 i.amount)))))))
+    i.kind ∷ 0 ∷ (bytes 2 i.account ++ (bytes 2 i.counterparty ++ (bytes 2 i.item
+    ++ (bytes 2 i.currency ++ (0 ∷ 0 ∷ (bytes 4 i.trade ++ (bytes 8 i.quantity ++ bytes 8 i.amount)))))))
 
 -- the number in the w bytes from place `at` on
 abbrev pub field : ℕ → ℕ → List ℕ → ℕ

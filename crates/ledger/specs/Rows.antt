@@ -35,7 +35,9 @@ put_answer t = cond (nat_le TRADES t) (Err (numbered 30)) (Ok tt)
 
 -- the trade that an instruction may start from, or why it may not
 abbrev pub startable : Act → Refusal → List Trade → ℕ → Result Trade Refusal
-startable k r rows t = cond (nat_le TRADES t) (Err (numbered 30)) (cond (not (starts k (state_at rows t))) (Err r) (Ok (trade_at rows t)))
+startable k r rows t =
+    cond (nat_le TRADES t) (Err (numbered 30))
+    (cond (not (starts k (state_at rows t))) (Err r) (Ok (trade_at rows t)))
 
 -- one trade put where there is one
 abbrev pub rows_with : List Trade → ℕ → Option Trade → List Trade

@@ -149,10 +149,8 @@ is-enter-on t x =
 
 pub last-words : LastWords
 last-words = record {
-  some = λ xs t. some (On t) (is-on t) xs;
-  one = λ xs t x y l m. one (On t) xs x y l m;
-  some-enter = λ xs t. some (EnterOn t) (is-enter-on t) xs;
-  one-enter = λ xs t x y l m. one (EnterOn t) xs x y l m;
+  of-trade = λ t. record { some = some (On t) (is-on t); one = one (On t) };
+  of-enter = λ t. record { some = some (EnterOn t) (is-enter-on t); one = one (EnterOn t) };
 }
 
 -- a trade's instruction leads by the table

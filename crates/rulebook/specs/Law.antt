@@ -10,14 +10,15 @@ use Rattle.rulebook.specs.Rules.{Rulebook, Standing, Runs, Reached, answer, step
 use Rattle.rulebook.specs.Tally.{credits, given, received, held}
 use Rattle.rulebook.specs.Words.{On, EnterOn, Never, Last, After, Stated}
 
--- For an account a and an item i of the book of side d: free and blocked together are the credits and what was
--- received, less what was given; and what is blocked is what open trades hold.
+-- For an account a and an item i of the book of side d: free and blocked together are the credits and
+-- what was received, less what was given; and what is blocked is what open trades hold.
 pub record Balanced (d : Side) (xs : List Instruction) (s : Standing) (a i : ℕ) : Type 0 where
-  pub whole : (s.book d).free a i + (s.book d).blocked a i + given a i d s ≡ credits a i d xs + received a i d s
+  pub whole :
+      (s.book d).free a i + (s.book d).blocked a i + given a i d s ≡ credits a i d xs + received a i d s
   pub part : (s.book d).blocked a i ≡ held a i d s
 
--- A list of accepted instructions says where things stand: each trade's state and terms, and each account's amounts
--- of each item.
+-- A list of accepted instructions says where things stand: each trade's state and terms, and each
+-- account's amounts of each item.
 pub record SaidBy (xs : List Instruction) (s : Standing) : Type 0 where
   -- a trade of which the list has no instruction was never entered
   pub unentered : (t : ℕ) → Never (On t) xs → s.state t ≡ Unentered
@@ -30,10 +31,12 @@ pub record SaidBy (xs : List Instruction) (s : Standing) : Type 0 where
 abbrev pub LawOfTheLedger : Type 0
 LawOfTheLedger = (h : Rulebook) (xs : List Instruction) (s : Standing) → Runs h xs s → SaidBy xs s
 
--- What an accepted instruction has the books do, they accept: a Settle or a Free never finds too little blocked.
+-- What an accepted instruction has the books do, they accept: a Settle or a Free never finds too
+-- little blocked.
 abbrev pub CarriedOut : Rulebook → Standing → Instruction → Type 0
 CarriedOut h s x =
-    answer h s x ≡ Ok tt → (d : Side) → ruling (h.kind d) (s.book d) (deed (kind_at x.kind) d (s.state x.trade) (s.terms x.trade) x) ≡ Ok tt
+    answer h s x ≡ Ok tt → (d : Side)
+    → ruling (h.kind d) (s.book d) (deed (kind_at x.kind) d (s.state x.trade) (s.terms x.trade) x) ≡ Ok tt
 
 -- An instruction was given where a list of accepted instructions had led.
 pub record Given (h : Rulebook) (before now-standing : Standing) (x : Instruction) : Type 0 where
@@ -43,7 +46,9 @@ pub record Given (h : Rulebook) (before now-standing : Standing) (x : Instructio
   pub reached : Reached h now-standing
   pub carried-out : CarriedOut h before x
   -- a trade moves by one of the table's steps
-  pub moves : answer h before x ≡ Ok tt → 3 ≤ x.kind → x.kind ≤ 7 → Steps (before.state x.trade) x.kind (now-standing.state x.trade)
+  pub moves :
+      answer h before x ≡ Ok tt → 3 ≤ x.kind → x.kind ≤ 7
+      → Steps (before.state x.trade) x.kind (now-standing.state x.trade)
 
 -- in words: a refused instruction leaves books and trades as they were
 abbrev pub KeptIfRefused : {X E : Type 0} → Result X E → Standing → Standing → Type 0

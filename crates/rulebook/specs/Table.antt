@@ -1,4 +1,4 @@
--- The table of states: which kind of instruction starts from which states and leads to which. Assumes nothing.
+-- The table of states: which kind of instruction starts from which states and leads to which.
 use Rattle.std.specs.Prelude.{◌≡◌, ℕ, Bool, false, cond, ◌||◌, List, [], ◌∷◌, Some, None, Option, ◌==◌, ◌≢◌}
 use Rattle.instruction.specs.declared.Kind.{Kind}
 use Rattle.instruction.specs.declared.Kind.TheVariants.{Issue, PayIn, Enter, Earmark, Fund, Settle, Free}

@@ -1,4 +1,5 @@
--- The sums of the law: credits over a list of instructions; given, received and held over all trades. Assumes nothing.
+-- The sums of the law, by the fields alone: credits over a list of instructions; given, received and
+-- held over all trades.
 use Rattle.std.specs.Prelude.{ℕ, if◌then◌else◌, List, sum_by, ◌==◌}
 use Rattle.std.specs.List.{range_with_len}
 use Rattle.instruction.specs.declared.Instruction.{Instruction}
@@ -13,7 +14,7 @@ use Rattle.rulebook.specs.Rules.{Standing}
 unfoldable pub trades : List ℕ
 trades = range_with_len 0 TRADES
 
--- Sums for one account and one item of a side's book; an item of the cash book is a currency.
+-- Sums for one account and one item of a side's book. An item of the cash book is a currency.
 module _ (account item : ℕ) where
   -- a quantity of the item I of the account A counts if they are these
   abbrev pub counted : ℕ → ℕ → ℕ → ℕ
@@ -24,7 +25,7 @@ module _ (account item : ℕ) where
   credit securities x = if x.kind == 1 then counted x.account x.item x.quantity else 0
   credit cash x = if x.kind == 2 then counted x.account x.currency x.amount else 0
 
-  -- in a settled trade the seller gave the quantity of the item, and the buyer the amount of the currency
+  -- in a settled trade the seller gave the quantity of the item, the buyer the amount of the currency
   abbrev pub gift : Side → State → Terms → ℕ
   gift securities Settled m = counted m.seller m.item m.quantity
   gift cash Settled m = counted m.buyer m.currency m.amount

@@ -1,4 +1,4 @@
--- What a list of instructions says of a trade: by its last instruction, and by its last Enter. Assumes nothing.
+-- What a list of instructions says of a trade: by its last instruction, and by its last Enter.
 use Rattle.std.specs.Prelude.{◌≡◌, ℕ, ◌≤◌, ◌⊎◌, List, ◌∷◌, ◌++◌}
 use Rattle.std.specs.List.{AllByRecursion}
 use Rattle.instruction.specs.declared.Instruction.{Instruction}
@@ -46,11 +46,12 @@ pub record Stated (x : Instruction) (m : Terms) : Type 0 where
   pub quantity : m.quantity ≡ x.quantity
   pub amount : m.amount ≡ x.amount
 
--- Every list says one thing of a trade: it has no instruction of it, or one that is the last. So of its Enters.
+-- in every list P holds of no instruction, or there is a last one of which it does, and one only
+pub record OneLast (P : Instruction → Type 0) : Type 0 where
+  pub some : (xs : List Instruction) → Never P xs ⊎ ((x : Instruction) × Last P x xs)
+  pub one : (xs : List Instruction) (x y : Instruction) → Last P x xs → Last P y xs → x ≡ y
+
+-- So every list says one thing of a trade's state, and one of its terms.
 pub record LastWords : Type 0 where
-  pub some : (xs : List Instruction) (t : ℕ) → Never (On t) xs ⊎ ((x : Instruction) × Last (On t) x xs)
-  pub one : (xs : List Instruction) (t : ℕ) (x y : Instruction) → Last (On t) x xs → Last (On t) y xs → x ≡ y
-  pub some-enter :
-      (xs : List Instruction) (t : ℕ) → Never (EnterOn t) xs ⊎ ((x : Instruction) × Last (EnterOn t) x xs)
-  pub one-enter :
-      (xs : List Instruction) (t : ℕ) (x y : Instruction) → Last (EnterOn t) x xs → Last (EnterOn t) y xs → x ≡ y
+  pub of-trade : (t : ℕ) → OneLast (On t)
+  pub of-enter : (t : ℕ) → OneLast (EnterOn t)

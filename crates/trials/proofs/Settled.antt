@@ -26,7 +26,20 @@ settled = record {
 
 pub answered-by-hand : AnsweredByHand
 unfolding up_to
-answered-by-hand = refl
+answered-by-hand = record {
+  unknown-kind = refl;
+  stray-field = refl;
+  no-trade = refl;
+  ever-entered = refl;
+  same-parties = refl;
+  no-account = refl;
+  no-item = refl;
+  no-quantity = refl;
+  over-ceiling = refl;
+  over-free = refl;
+  wrong-state = refl;
+  accepted = refl;
+}
 
 -- where an instruction leads from a standing that is known
 pub led : {h : Rulebook} {s t u : Standing} {x y : Instruction} → Given h s t x → s ≡ u → x ≡ y → t ≡ step h u y

@@ -87,7 +87,8 @@ fn same_parties() -> u8
     fault_number(ledger.judge(&x))
 }
 
-// Account 1 sells 100 of item 3 to account 2 for 2,000 of currency 4, from the Issue and the Pay in to the Settle.
+// Account 1 sells 100 of item 3 to account 2 for 2,000 of currency 4: from the Issue and the Pay in to
+// the Settle.
 fn settle_a_trade() -> Settlement
     ensures { result ≡ eight_amounts }
 {
