@@ -1,11 +1,12 @@
 -- The two round trips of an instruction. Assumes nothing.
-use Rattle.std.proofs.Common.{◌≡◌, ℕ, ◌<◌, Bool, true, false, cond, ◌&&◌, eqb, List, ◌∷◌, ◌++◌, length, get_or, Ok, Err, sym, refl, ◌∙◌}
+use Rattle.std.proofs.Common.{◌≡◌, ℕ, zero, suc, ◌+◌, ◌/◌, ◌%◌, ◌^◌, ◌<◌, Bool, true, false, cond, ◌&&◌, eqb, List, ◌∷◌, ◌++◌, length, get_or, Ok, Err, sym, refl, ap, ◌∙◌, subst, pow-suc, arith}
+use Rattle.std.proofs.Math.Nat.{div-div-eq-div-mul, div-one, mul_comm}
 use Rattle.std.proofs.lemmas.Bool.{eqb-true, and_parts}
-use Rattle.little_endian.specs.Little.{part}
+use Rattle.little_endian.specs.Little.{bytes, part}
 use Rattle.little_endian.proofs.Widths.{le-bytes, part-back, part-whole}
 use Rattle.answers.specs.declared.Refusal.TheVariants.{Malformed}
 use Rattle.instruction.specs.declared.Instruction.{Instruction}
-use Rattle.instruction.specs.Layout.{bytes_of, instruction_in, fields, unused_zero, IsInstruction, Reads, Fit}
+use Rattle.instruction.specs.Layout.{bytes_of, instruction_in, fields, unused_zero, IsInstruction, Lies, LaidOut, Reads, Fit}
 
 pub there : (i : Instruction) → Fit i → instruction_in (bytes_of i) ≡ Ok i
 there i f =
@@ -40,12 +41,44 @@ is-instruction bs e =
     let r = and_parts (eqb (get_or bs 10 0) 0) (eqb (get_or bs 11 0) 0) q.1 in
     record { long = eqb-true _ _ p.0; one = eqb-true _ _ q.0; ten = eqb-true _ _ r.0; eleven = eqb-true _ _ r.1 }
 
+-- a number written at a place lies there
+byte-at : (w n k : ℕ) → k < w → get_or (bytes w n) k 0 ≡ (n / (2 ^ 8) ^ k) % 2 ^ 8
+byte-at zero n k l = absurd (omega arith)
+byte-at (suc w) n zero l = ap (λ m. m % 256) (sym (div-one n))
+byte-at (suc w) n (suc k) l =
+    byte-at w (n / 256) k (omega arith) ∙ ap (λ m. m % 256) (div-div-eq-div-mul n 256 (256 ^ k) ∙ ap (λ m. n / m) (mul_comm 256 (256 ^ k) ∙ sym (pow-suc 256 k)))
+
+part-at : (bs : List ℕ) (at w k : ℕ) → k < w → get_or (part at w bs) k 0 ≡ get_or bs (at + k) 0
+part-at bs at zero k l = absurd (omega arith)
+part-at bs at (suc w) zero l = ap (λ p. get_or bs p 0) (omega arith)
+part-at bs at (suc w) (suc k) l =
+    let e : suc at + k ≡ at + suc k = omega arith in
+    part-at bs (suc at) w k (omega arith) ∙ ap (λ p. get_or bs p 0) e
+
+lies : (bs : List ℕ) (at w n : ℕ) → part at w bs ≡ bytes w n → Lies bs at w n
+lies bs at w n e k l = sym (part-at bs at w k l) ∙ ap (λ t. get_or t k 0) e ∙ byte-at w n k l
+
+pub laid-out : (i : Instruction) → LaidOut (bytes_of i) i
+laid-out i = record {
+  whole = record { long = refl; one = refl; ten = refl; eleven = refl };
+  kind = refl;
+  account = lies (bytes_of i) 2 2 i.account refl;
+  counterparty = lies (bytes_of i) 4 2 i.counterparty refl;
+  item = lies (bytes_of i) 6 2 i.item refl;
+  currency = lies (bytes_of i) 8 2 i.currency refl;
+  trade = lies (bytes_of i) 12 4 i.trade refl;
+  quantity = lies (bytes_of i) 16 8 i.quantity refl;
+  amount = lies (bytes_of i) 24 8 i.amount refl;
+}
+
 passes : (bs : List ℕ) → IsInstruction bs → (eqb (length bs) 32 && unused_zero bs) ≡ true
 passes bs s = rw (s.long, s.one, s.ten, s.eleven)
 
 reads-cases : (bs : List ℕ) → ((i : ℕ) → get_or bs i 0 < 256) → (t : Bool) → (eqb (length bs) 32 && unused_zero bs) ≡ t
     → Reads bs (cond t (Ok (fields bs)) (Err Malformed))
-reads-cases bs h true e = let s = is-instruction bs e in (s, laid-back bs h s)
+reads-cases bs h true e =
+    let b = laid-back bs h (is-instruction bs e) in
+    (subst (λ c. LaidOut c (fields bs)) b (laid-out (fields bs)), b)
 reads-cases bs h false e = (refl, λ s. let z : true ≡ false = sym (passes bs s) ∙ e in cc)
 
 pub reads : (bs : List ℕ) → ((i : ℕ) → get_or bs i 0 < 256) → Reads bs (instruction_in bs)

@@ -1,5 +1,5 @@
 -- An instruction as 32 bytes, both ways. Assumes nothing.
-use Rattle.std.specs.Prelude.{◌≡◌, ℕ, ◌^◌, ◌<◌, Bool, cond, ◌&&◌, List, ◌∷◌, ◌++◌, length, Ok, Err, Result, ◌==◌, slice_index, slice_index_or}
+use Rattle.std.specs.Prelude.{◌≡◌, ℕ, ◌+◌, ◌/◌, ◌%◌, ◌^◌, ◌<◌, Bool, cond, ◌&&◌, List, ◌∷◌, ◌++◌, length, Ok, Err, Result, ◌==◌, slice_index, slice_index_or}
 use Rattle.little_endian.specs.Little.{le, bytes, part}
 use Rattle.answers.specs.declared.Refusal.{Refusal}
 use Rattle.answers.specs.Numbers.{numbered, number_of}
@@ -7,20 +7,29 @@ use Rattle.instruction.specs.declared.Kind.{Kind}
 use Rattle.instruction.specs.declared.Instruction.{Instruction}
 use Rattle.instruction.specs.Kinds.{code_of}
 
--- an instruction of a kind, with 0 in each other field
-abbrev pub of_kind : Kind → Instruction
-of_kind k = record { kind = code_of k; account = 0; counterparty = 0; item = 0; currency = 0; trade = 0; quantity = 0; amount = 0 }
-
--- and one that names a trade and nothing else
+-- an instruction of a kind that names a trade, with 0 in each other field
 abbrev pub on_trade : Kind → ℕ → Instruction
-on_trade k t = record { kind = code_of k; account = 0; counterparty = 0; item = 0; currency = 0; trade = t; quantity = 0; amount = 0 }
+on_trade k t = record {
+  kind = code_of k;
+  account = 0;
+  counterparty = 0;
+  item = 0;
+  currency = 0;
+  trade = t;
+  quantity = 0;
+  amount = 0;
+}
 
--- byte 0 the kind, byte 1 zero, then the account, the counterparty, the item and the currency in two bytes each,
--- bytes 10 and 11 zero, the trade in four bytes, the quantity and the amount in eight each
+-- and one with 0 in the trade too
+abbrev pub of_kind : Kind → Instruction
+of_kind k = on_trade k 0
+
+-- byte 0 the kind, byte 1 zero, then the account, the counterparty, the item and the currency in two
+-- bytes each, bytes 10 and 11 zero, the trade in four bytes, the quantity and the amount in eight each
 abbrev pub bytes_of : Instruction → List ℕ
 bytes_of i =
-    i.kind ∷ 0 ∷ (bytes 2 i.account ++ (bytes 2 i.counterparty ++ (bytes 2 i.item ++ (bytes 2 i.currency
-    ++ (0 ∷ 0 ∷ (bytes 4 i.trade ++ (bytes 8 i.quantity ++ bytes 8 i.amount)))))))
+    i.kind ∷ 0 ∷ (bytes 2 i.account ++ (bytes 2 i.counterparty ++ (bytes 2 i.item
+    ++ (bytes 2 i.currency ++ (0 ∷ 0 ∷ (bytes 4 i.trade ++ (bytes 8 i.quantity ++ bytes 8 i.amount)))))))
 
 -- the number in the w bytes from place `at` on
 abbrev pub field : ℕ → ℕ → List ℕ → ℕ
@@ -51,9 +60,25 @@ pub record IsInstruction (bs : List ℕ) : Type 0 where
   pub ten : slice_index_or bs 10 0 ≡ 0
   pub eleven : slice_index_or bs 11 0 ≡ 0
 
+-- the number n lies in the w bytes from place `at` on, the lowest byte first
+abbrev pub Lies : List ℕ → ℕ → ℕ → ℕ → Type 0
+Lies bs at w n = (k : ℕ) → k < w → slice_index_or bs (at + k) 0 ≡ (n / (2 ^ 8) ^ k) % 2 ^ 8
+
+-- The layout, place by place, in words of its own.
+pub record LaidOut (bs : List ℕ) (i : Instruction) : Type 0 where
+  pub whole : IsInstruction bs
+  pub kind : slice_index_or bs 0 0 ≡ i.kind
+  pub account : Lies bs 2 2 i.account
+  pub counterparty : Lies bs 4 2 i.counterparty
+  pub item : Lies bs 6 2 i.item
+  pub currency : Lies bs 8 2 i.currency
+  pub trade : Lies bs 12 4 i.trade
+  pub quantity : Lies bs 16 8 i.quantity
+  pub amount : Lies bs 24 8 i.amount
+
 -- what reading answers: the one instruction that has these bytes, or that there is none
 abbrev pub Reads : List ℕ → Result Instruction Refusal → Type 0
-Reads bs (Ok i) = IsInstruction bs × (bytes_of i ≡ bs)
+Reads bs (Ok i) = LaidOut bs i × (bytes_of i ≡ bs)
 Reads bs (Err r) = (number_of r ≡ 46) × (IsInstruction bs → ⊥)
 
 -- each field fits its width, as every instruction that the code holds does

@@ -3,7 +3,7 @@
 
 ghost use Rattle.std.specs.Prelude.{◌≡◌, ◌+◌, ◌≤◌, length, Ok};
 ghost use Rattle.instruction.specs.Kinds.{code_of, Decodes, KindsAndCodes};
-ghost use Rattle.instruction.specs.Layout.{of_kind, on_trade, bytes_of, instruction_in, field, Reads};
+ghost use Rattle.instruction.specs.Layout.{of_kind, on_trade, bytes_of, instruction_in, field, LaidOut, Reads};
 
 use answers::Refusal;
 use little_endian::LittleEndian;
@@ -90,6 +90,7 @@ impl Instruction {
     // This way and back are methods, by names that say bytes, as of the library's numbers. The array shows the layout.
     pub fn to_bytes(self) -> [u8; 32]
         ensures value { result ≡ bytes_of self }
+        ensures laid_out { LaidOut result self }
         ensures read_back { instruction_in result ≡ Ok self }
     {
         let [a0, a1]: [u8; 2] = self.account.to_little_endian();

@@ -3,6 +3,7 @@ use Rattle.std.specs.Prelude.{ℕ, cond, not, List, Some, None, Ok, Err, Option,
 use Rattle.answers.specs.declared.Refusal.{Refusal}
 use Rattle.answers.specs.Numbers.{numbered}
 use Rattle.instruction.specs.declared.Instruction.{Instruction}
+use Rattle.rulebook.specs.declared.TheConstants.{TRADES}
 use Rattle.rulebook.specs.declared.State.{State}
 use Rattle.rulebook.specs.declared.State.TheVariants.{Unentered}
 use Rattle.rulebook.specs.declared.Terms.{Terms}
@@ -27,14 +28,16 @@ terms_at rows t = (trade_at rows t).terms
 
 -- one row of the table changed
 abbrev pub put : List Trade → ℕ → Trade → List Trade
-put rows t trade = cond (nat_le 128 t) rows (slice_set rows t trade)
+put rows t trade = cond (nat_le TRADES t) rows (slice_set rows t trade)
 
 abbrev pub put_answer : ℕ → Result (Unit {0}) Refusal
-put_answer t = cond (nat_le 128 t) (Err (numbered 30)) (Ok tt)
+put_answer t = cond (nat_le TRADES t) (Err (numbered 30)) (Ok tt)
 
 -- the trade that an instruction may start from, or why it may not
 abbrev pub startable : Act → Refusal → List Trade → ℕ → Result Trade Refusal
-startable k r rows t = cond (nat_le 128 t) (Err (numbered 30)) (cond (not (starts k (state_at rows t))) (Err r) (Ok (trade_at rows t)))
+startable k r rows t =
+    cond (nat_le TRADES t) (Err (numbered 30))
+    (cond (not (starts k (state_at rows t))) (Err r) (Ok (trade_at rows t)))
 
 -- one trade put where there is one
 abbrev pub rows_with : List Trade → ℕ → Option Trade → List Trade
@@ -47,4 +50,4 @@ rows_after k x rows = rows_with rows x.trade (turned_trade k x (trade_at rows x.
 
 -- the question of a trade's state
 abbrev pub state_question : (ℕ → State) → ℕ → Result State Refusal
-state_question f t = cond (nat_le 128 t) (Err (numbered 30)) (Ok (f t))
+state_question f t = cond (nat_le TRADES t) (Err (numbered 30)) (Ok (f t))

@@ -6,6 +6,7 @@ use Rattle.answers.specs.declared.Fault.{Fault}
 use Rattle.instruction.specs.declared.Kind.{Kind}
 use Rattle.instruction.specs.declared.Instruction.{Instruction}
 use Rattle.book.specs.declared.Book as book
+use Rattle.book.specs.declared.TheConstants.{ACCOUNTS}
 use Rattle.book.specs.declared.Holding.{Holding}
 use Rattle.book.specs.Holdings.{Holdings, BookKind}
 use Rattle.book.specs.Rulings.{no_holding, asked, holding_at, outcome}
@@ -37,10 +38,14 @@ abbrev pub holding_in : Table → ℕ → ℕ → Holding
 holding_in t account item = slice_index_or (slice_index_or t account []) item no_holding
 
 abbrev pub holdings_in : Table → Holdings
-holdings_in t = record { free = λ a i. (holding_in t a i).free; blocked = λ a i. (holding_in t a i).blocked }
+holdings_in t = record {
+  free = λ a i. (holding_in t a i).free;
+  blocked = λ a i. (holding_in t a i).blocked;
+}
 
 unfoldable pub table_of : BookKind → Holdings → Table
-table_of k b = map (λ a. map (holding_at b a) (range_with_len 0 k.items)) (range_with_len 0 64)
+table_of k b =
+    map (λ a. map (holding_at b a) (range_with_len 0 k.items)) (range_with_len 0 ACCOUNTS)
 
 -- a ledger, as a contract sees it
 pub record Tables : Type 0 where
@@ -49,7 +54,11 @@ pub record Tables : Type 0 where
   pub trades : List Trade
 
 abbrev pub tables_in : {R C : Type 0} → book.Ghosts R → book.Ghosts C → Parts R C → Tables
-tables_in r c p = record { register = table_of r.fixed (r.holdings p.register); cash = table_of c.fixed (c.holdings p.cash); trades = p.trades.rows }
+tables_in r c p = record {
+  register = table_of r.fixed (r.holdings p.register);
+  cash = table_of c.fixed (c.holdings p.cash);
+  trades = p.trades.rows;
+}
 
 -- where a ledger stands
 abbrev pub standing_of : Tables → Standing

@@ -18,9 +18,9 @@ use answers::{Fault, Refusal};
 use book::{Book, Holding};
 use instruction::Instruction;
 use parts::Parts;
-use rulebook::State;
+use rulebook::{State, TRADES};
 use std::marker::Model;
-use trades::{TRADES, Trades};
+use trades::Trades;
 
 // Any register and any cash book, with the trades between their accounts.
 #[derive(Drop)]

@@ -1,19 +1,17 @@
 // The table of trades, numbered 0 to 127.
 // Its ghost field imports what this file does, so nothing here may name the table's own type.
 ghost use Rattle.std.specs.Prelude.{◌≡◌, Some, length, replicate};
+ghost use Rattle.rulebook.specs.declared.TheConstants.{TRADES};
 ghost use Rattle.ledger.specs.Rows.{blank, trade_at, put as put_in, put_answer, startable};
 
 use answers::Refusal;
 use instruction::Kind;
-use rulebook::{State, Terms, Trade};
-
-// The trades that the table has room for.
-pub(crate) const TRADES: usize = 128;
+use rulebook::{State, TRADES, Terms, Trade};
 
 #[derive(Drop)]
 pub struct Trades {
     rows: [Trade; TRADES],
-    ghost whole: { length rows ≡ 128 },
+    ghost whole: { length rows ≡ TRADES },
 }
 
 const UNENTERED: Trade = Trade {
@@ -31,7 +29,7 @@ const UNENTERED: Trade = Trade {
 impl Trades {
     // No trade was ever entered.
     pub fn new() -> Trades
-        ensures { result.rows ≡ replicate 128 blank }
+        ensures { result.rows ≡ replicate TRADES blank }
     {
         Trades {
             rows: [UNENTERED; TRADES],

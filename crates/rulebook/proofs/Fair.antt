@@ -7,7 +7,7 @@ use Rattle.rulebook.specs.declared.State.{State}
 use Rattle.rulebook.specs.declared.State.TheVariants.{Entered}
 use Rattle.rulebook.specs.declared.Terms.{Terms}
 use Rattle.rulebook.specs.Rules.{at}
-use Rattle.rulebook.specs.Tally.{over}
+use Rattle.rulebook.proofs.Replay.{over}
 
 -- a trade's change of state changes the sum over all trades by one term
 pub shift : (c : State → Terms → ℕ) (st : ℕ → State) (tm : ℕ → Terms) (t : ℕ) (old new : State) → st t ≡ old → t < 128 → over c (at st t new) tm + c old (tm t) ≡ over c st tm + c new (tm t)

@@ -29,5 +29,5 @@ given h s t x z e = record {
   after = e;
   reached = subst (λ u. Reached h u) (sym e) (reached-step h s x z);
   carried-out = carried-out h z.0 s x z.1;
-  moves = λ ok k ek of. subst (λ u. Steps (s.state x.trade) k (u.state x.trade)) (sym (e ∙ accepted h s x ok)) (moves h s x ok k ek of);
+  moves = λ ok l m. subst (λ u. Steps (s.state x.trade) x.kind (u.state x.trade)) (sym (e ∙ accepted h s x ok)) (moves h s x ok l m);
 }

@@ -1,3 +1,6 @@
+pub mod Bytes
+pub mod Replay
+pub mod Fields
 pub mod Tables
 pub mod Checks
 pub mod Fair

@@ -1,20 +1,20 @@
--- The words of the tally and of the table. Assumes nothing.
-use Rattle.std.proofs.Common.{◌≡◌, ℕ, true, false, eqb, List, [], ◌∷◌, ◌++◌, Some, None, Ok, fold, sym, refl, ap, ◌∙◌, subst, ⊎_elim}
-use Rattle.std.specs.List.{AllByRecursion}
-use Rattle.std.proofs.lemmas.Bool.{eqb-true, eq-eqb, ne_eqb, cases_Bool, cond-true, cond-false}
+-- The words of the law, of a list that is read from left to right, and the table's words of an accepted instruction. Assumes nothing.
+use Rattle.std.proofs.Common.{◌≡◌, ℕ, ◌<◌, ◌≤◌, true, false, eqb, ◌⊎◌, inl, inr, List, [], ◌∷◌, ◌++◌, Some, None, Ok, fold, sym, refl, ap, ◌∙◌, subst, ⊎_elim, arith}
+use Rattle.std.proofs.lemmas.Bool.{eqb-true, eq-eqb, ne_eqb, cases_Bool, cases_eq, cases_lt, cond-true, cond-false}
 use Rattle.instruction.specs.declared.Kind.{Kind}
-use Rattle.instruction.specs.declared.Kind.TheVariants.{Issue, PayIn, Enter, Earmark, Fund, Settle, Free}
+use Rattle.instruction.specs.declared.Kind.TheVariants.{Enter, Earmark, Fund, Settle, Free}
 use Rattle.instruction.specs.declared.Instruction.{Instruction}
 use Rattle.instruction.specs.Kinds.{code_of, kind_at}
 use Rattle.book.specs.Rulings.{first}
 use Rattle.rulebook.specs.declared.State.{State}
-use Rattle.rulebook.specs.declared.State.TheVariants.{Unentered, Entered, Earmarked, Funded, Settled, Freed}
+use Rattle.rulebook.specs.declared.State.TheVariants.{Entered, Earmarked, Funded, Settled, Freed}
 use Rattle.rulebook.specs.declared.Terms.{Terms}
-use Rattle.rulebook.specs.Table.{Act, after, starts, next, Steps}
-use Rattle.rulebook.specs.Terms.{no_terms, terms_of}
-use Rattle.rulebook.specs.Rules.{Rulebook, Standing, all_checks, answer, at, turned, effect, OfTrade}
-use Rattle.rulebook.specs.Tally.{read_state, read_terms}
-use Rattle.rulebook.specs.Words.{After, On, EnterOn, LastWords}
+use Rattle.rulebook.specs.Table.{after, starts, next, Steps}
+use Rattle.rulebook.specs.Terms.{terms_of}
+use Rattle.rulebook.specs.Rules.{Rulebook, Standing, all_checks, answer, at, turned, effect}
+use Rattle.rulebook.specs.Words.{On, EnterOn, Never, Last, After, Stated, LastWords}
+use Rattle.rulebook.proofs.Bytes.{by-byte}
+use Rattle.rulebook.proofs.Replay.{read_state, read_terms}
 use Rattle.rulebook.proofs.Checks.{right, enter-code}
 use Rattle.rulebook.proofs.Tables.{state-table}
 
@@ -24,70 +24,154 @@ at-same f t u v e = cond-true (eqb t u) v (f u) (eq-eqb t u e)
 at-other : {Y : Type 0} (f : ℕ → Y) (t u : ℕ) (v : Y) → (t ≡ u → ⊥) → at f t v u ≡ f u
 at-other f t u v ne = cond-false (eqb t u) v (f u) (ne_eqb t u ne)
 
-untouched : (k : Act) (f : ℕ → State) (u t : ℕ) → (OfTrade k × (u ≡ t) → ⊥) → turned (after k) f u t ≡ f t
-untouched None f u t h = refl
-untouched (Some Issue) f u t h = refl
-untouched (Some PayIn) f u t h = refl
-untouched k f u t h = at-other f u t _ (λ e. h (tt, e))
+-- an instruction of another trade, or of none, leaves this one's state
+untouched : (x : Instruction) (f : ℕ → State) (t : ℕ) → (On t x → ⊥) → read_state f x t ≡ f t
+untouched x f t h =
+    by-byte (λ k n. (3 ≤ n → n ≤ 7 → x.trade ≡ t → ⊥) → turned (after k) f x.trade t ≡ f t)
+    (λ h. refl) (λ h. refl)
+    (λ h. at-other f x.trade t _ (h (omega arith) (omega arith)))
+    (λ h. at-other f x.trade t _ (h (omega arith) (omega arith)))
+    (λ h. at-other f x.trade t _ (h (omega arith) (omega arith)))
+    (λ h. at-other f x.trade t _ (h (omega arith) (omega arith)))
+    (λ h. at-other f x.trade t _ (h (omega arith) (omega arith)))
+    (λ n o h. refl) x.kind (λ l m e. h (record { from = l; to = m; trade = e }))
 
-touched : (k : Act) (f : ℕ → State) (u t : ℕ) → OfTrade k → u ≡ t → After k (turned (after k) f u t)
-touched None f u t h e = absurd h
-touched (Some Issue) f u t h e = absurd h
-touched (Some PayIn) f u t h e = absurd h
-touched k f u t h e = at-same f u t _ e
+-- and one of this trade sets it
+touched : (x : Instruction) (f : ℕ → State) (t : ℕ) → On t x → After x.kind (read_state f x t)
+touched x f t o =
+    by-byte (λ k n. 3 ≤ n → n ≤ 7 → After n (turned (after k) f x.trade t))
+    (λ l m. absurd (omega arith)) (λ l m. absurd (omega arith))
+    (λ l m. rw (eq-eqb x.trade t o.trade) entered-after)
+    (λ l m. rw (eq-eqb x.trade t o.trade) earmarked-after)
+    (λ l m. rw (eq-eqb x.trade t o.trade) funded-after)
+    (λ l m. rw (eq-eqb x.trade t o.trade) settled-after)
+    (λ l m. rw (eq-eqb x.trade t o.trade) freed-after)
+    (λ n h l m. absurd (h l m)) x.kind o.from o.to
+  where
+    entered-after : After 3 Entered
+    entered-after = record { entered = λ e. refl; earmarked = λ e. absurd (omega arith); funded = λ e. absurd (omega arith); settled = λ e. absurd (omega arith); freed = λ e. absurd (omega arith) }
 
-stay : (zs : List Instruction) (f : ℕ → State) (t : ℕ) → AllByRecursion (λ z. On t z → ⊥) zs → fold read_state f zs t ≡ f t
+    earmarked-after : After 4 Earmarked
+    earmarked-after = record { entered = λ e. absurd (omega arith); earmarked = λ e. refl; funded = λ e. absurd (omega arith); settled = λ e. absurd (omega arith); freed = λ e. absurd (omega arith) }
+
+    funded-after : After 5 Funded
+    funded-after = record { entered = λ e. absurd (omega arith); earmarked = λ e. absurd (omega arith); funded = λ e. refl; settled = λ e. absurd (omega arith); freed = λ e. absurd (omega arith) }
+
+    settled-after : After 6 Settled
+    settled-after = record { entered = λ e. absurd (omega arith); earmarked = λ e. absurd (omega arith); funded = λ e. absurd (omega arith); settled = λ e. refl; freed = λ e. absurd (omega arith) }
+
+    freed-after : After 7 Freed
+    freed-after = record { entered = λ e. absurd (omega arith); earmarked = λ e. absurd (omega arith); funded = λ e. absurd (omega arith); settled = λ e. absurd (omega arith); freed = λ e. refl }
+
+pub stay : (zs : List Instruction) (f : ℕ → State) (t : ℕ) → Never (On t) zs → fold read_state f zs t ≡ f t
 stay [] f t h = refl
-stay (z ∷ zs) f t h = stay zs (read_state f z) t h.1 ∙ untouched (kind_at z.kind) f z.trade t h.0
+stay (z ∷ zs) f t h = stay zs (read_state f z) t h.1 ∙ untouched z f t h.0
 
-last : (xs zs : List Instruction) (f : ℕ → State) (x : Instruction) (t : ℕ) → On t x → AllByRecursion (λ z. On t z → ⊥) zs → After (kind_at x.kind) (fold read_state f (xs ++ (x ∷ zs)) t)
-last [] zs f x t o h = rw (stay zs (read_state f x) t h) (touched (kind_at x.kind) f x.trade t o.0 o.1)
-last (y ∷ xs) zs f x t o h = last xs zs (read_state f y) x t o h
+after-x : (xs zs : List Instruction) (f : ℕ → State) (x : Instruction) (t : ℕ) → On t x → Never (On t) zs → After x.kind (fold read_state f (xs ++ (x ∷ zs)) t)
+after-x [] zs f x t o h = rw (stay zs (read_state f x) t h) (touched x f t o)
+after-x (y ∷ xs) zs f x t o h = after-x xs zs (read_state f y) x t o h
+
+pub after-last : (xs : List Instruction) (f : ℕ → State) (x : Instruction) (t : ℕ) → Last (On t) x xs → After x.kind (fold read_state f xs t)
+after-last xs f x t l =
+    subst (λ ys. After x.kind (fold read_state f ys t)) (sym l.place) (after-x l.before l.later f x t l.holds l.never-later)
 
 terms-kept : (f : ℕ → Terms) (x : Instruction) (t : ℕ) → (EnterOn t x → ⊥) → read_terms f x t ≡ f t
 terms-kept f x t h =
-    ⊎_elim (λ (e : eqb x.kind (code_of Enter) ≡ true). rw (enter-code x.kind, e) (at-other f x.trade t (terms_of x) (λ w. h (eqb-true _ _ e, w))))
+    ⊎_elim (λ (e : eqb x.kind (code_of Enter) ≡ true). rw (enter-code x.kind, e) (at-other f x.trade t (terms_of x) (λ w. h (record { kind = eqb-true _ _ e; trade = w }))))
     (λ (e : eqb x.kind (code_of Enter) ≡ false). rw (enter-code x.kind, e)) (cases_Bool (eqb x.kind (code_of Enter)))
 
 terms-set : (f : ℕ → Terms) (x : Instruction) (t : ℕ) → EnterOn t x → read_terms f x t ≡ terms_of x
-terms-set f x t o = rw (enter-code x.kind, eq-eqb x.kind (code_of Enter) o.0) (at-same f x.trade t (terms_of x) o.1)
+terms-set f x t o = rw (enter-code x.kind, eq-eqb x.kind (code_of Enter) o.kind) (at-same f x.trade t (terms_of x) o.trade)
 
-terms-stay : (zs : List Instruction) (f : ℕ → Terms) (t : ℕ) → AllByRecursion (λ z. EnterOn t z → ⊥) zs → fold read_terms f zs t ≡ f t
+terms-stay : (zs : List Instruction) (f : ℕ → Terms) (t : ℕ) → Never (EnterOn t) zs → fold read_terms f zs t ≡ f t
 terms-stay [] f t h = refl
 terms-stay (z ∷ zs) f t h = terms-stay zs (read_terms f z) t h.1 ∙ terms-kept f z t h.0
 
-last-terms : (xs zs : List Instruction) (f : ℕ → Terms) (x : Instruction) (t : ℕ) → EnterOn t x → AllByRecursion (λ z. EnterOn t z → ⊥) zs → fold read_terms f (xs ++ (x ∷ zs)) t ≡ terms_of x
-last-terms [] zs f x t o h = terms-stay zs (read_terms f x) t h ∙ terms-set f x t o
-last-terms (y ∷ xs) zs f x t o h = last-terms xs zs (read_terms f y) x t o h
+terms-x : (xs zs : List Instruction) (f : ℕ → Terms) (x : Instruction) (t : ℕ) → EnterOn t x → Never (EnterOn t) zs → fold read_terms f (xs ++ (x ∷ zs)) t ≡ terms_of x
+terms-x [] zs f x t o h = terms-stay zs (read_terms f x) t h ∙ terms-set f x t o
+terms-x (y ∷ xs) zs f x t o h = terms-x xs zs (read_terms f y) x t o h
+
+stated : (x : Instruction) → Stated x (terms_of x)
+stated x = search
+
+pub stated-last : (xs : List Instruction) (f : ℕ → Terms) (x : Instruction) (t : ℕ) → Last (EnterOn t) x xs → Stated x (fold read_terms f xs t)
+stated-last xs f x t l =
+    let e = ap (λ ys. fold read_terms f ys t) l.place ∙ terms-x l.before l.later f x t l.holds l.never-later in
+    subst (Stated x) (sym e) (stated x)
+
+-- a list has one last instruction of which P holds, if any
+module _ (P : Instruction → Type 0) where
+  missed : (ys zs : List Instruction) (y : Instruction) → Never P (ys ++ (y ∷ zs)) → P y → ⊥
+  missed [] zs y n p = n.0 p
+  missed (u ∷ ys) zs y n p = missed ys zs y n.1 p
+
+  one-place : (xs ys : List Instruction) (x y : Instruction) (us vs : List Instruction) → xs ++ (x ∷ us) ≡ ys ++ (y ∷ vs)
+      → P x → P y → Never P us → Never P vs → x ≡ y
+  one-place [] [] x y us vs e p q n m = cc
+  one-place [] (w ∷ ys) x y us vs e p q n m =
+      let f : us ≡ ys ++ (y ∷ vs) = cc in
+      absurd (missed ys vs y (subst (λ l. Never P l) f n) q)
+  one-place (w ∷ xs) [] x y us vs e p q n m =
+      let f : vs ≡ xs ++ (x ∷ us) = cc in
+      absurd (missed xs us x (subst (λ l. Never P l) f m) p)
+  one-place (w ∷ xs) (v ∷ ys) x y us vs e p q n m =
+      let f : xs ++ (x ∷ us) ≡ ys ++ (y ∷ vs) = cc in
+      one-place xs ys x y us vs f p q n m
+
+  one : (xs : List Instruction) (x y : Instruction) → Last P x xs → Last P y xs → x ≡ y
+  one xs x y l m = one-place l.before m.before x y l.later m.later (sym l.place ∙ m.place) l.holds m.holds l.never-later m.never-later
+
+  some : ((x : Instruction) → P x ⊎ (P x → ⊥)) → (xs : List Instruction) → Never P xs ⊎ ((x : Instruction) × Last P x xs)
+  some d [] = inl tt
+  some d (x ∷ xs) =
+      ⊎_elim (λ (n : Never P xs).
+      ⊎_elim (λ (p : P x). inr (x, record { before = []; later = xs; place = refl; holds = p; never-later = n }))
+      (λ (q : P x → ⊥). inl (q, n)) (d x))
+      (λ (l : (y : Instruction) × Last P y xs).
+      inr (l.0, record { before = x ∷ l.1.before; later = l.1.later; place = ap (λ ys. x ∷ ys) l.1.place; holds = l.1.holds; never-later = l.1.never-later }))
+      (some d xs)
+
+is-on : (t : ℕ) (x : Instruction) → On t x ⊎ (On t x → ⊥)
+is-on t x =
+    ⊎_elim (λ (l : x.kind < 3). inr (λ o. let f = o.from in omega arith))
+    (λ (l : 3 ≤ x.kind).
+    ⊎_elim (λ (m : 7 < x.kind). inr (λ o. let f = o.to in omega arith))
+    (λ (m : x.kind ≤ 7).
+    ⊎_elim (λ (e : x.trade ≡ t). inl (record { from = l; to = m; trade = e })) (λ (n : x.trade ≡ t → ⊥). inr (λ o. n o.trade)) (cases_eq x.trade t))
+    (cases_lt 7 x.kind))
+    (cases_lt x.kind 3)
+
+is-enter-on : (t : ℕ) (x : Instruction) → EnterOn t x ⊎ (EnterOn t x → ⊥)
+is-enter-on t x =
+    ⊎_elim (λ (k : x.kind ≡ 3).
+    ⊎_elim (λ (e : x.trade ≡ t). inl (record { kind = k; trade = e })) (λ (n : x.trade ≡ t → ⊥). inr (λ o. n o.trade)) (cases_eq x.trade t))
+    (λ (n : x.kind ≡ 3 → ⊥). inr (λ o. n o.kind)) (cases_eq x.kind 3)
 
 pub last-words : LastWords
-last-words =
-    record {
-      never = λ xs t h. stay xs (λ u. Unentered) t h;
-      last = λ xs zs x t o h. last xs zs (λ u. Unentered) x t o h;
-      terms = λ xs zs x t o h. last-terms xs zs (λ u. no_terms) x t o h;
-    }
+last-words = record {
+  of-trade = λ t. record { some = some (On t) (is-on t); one = one (On t) };
+  of-enter = λ t. record { some = some (EnterOn t) (is-enter-on t); one = one (EnterOn t) };
+}
 
 -- a trade's instruction leads by the table
-steps : (k : Kind) (o p : State) (f : ℕ → State) (t : ℕ) → after (Some k) ≡ Some p → starts (Some k) o ≡ true → Steps o k (turned (after (Some k)) f t t)
-steps k o p f t e w =
-    let n : next (Some k) o ≡ Some p = cond-true (starts (Some k) o) (after (Some k)) None w ∙ e in
+steps : (k : Kind) (n : ℕ) → kind_at n ≡ Some k → (o p : State) (f : ℕ → State) (t : ℕ) → after (Some k) ≡ Some p → starts (Some k) o ≡ true
+    → Steps o n (turned (after (Some k)) f t t)
+steps k n c o p f t e w =
+    let b : next (Some k) o ≡ Some p = cond-true (starts (Some k) o) (after (Some k)) None w ∙ e in
     let v : turned (after (Some k)) f t t ≡ p = ap (λ a. turned a f t t) e ∙ at-same f t t p refl in
-    subst (λ q. Steps o k q) (sym v) (state-table.only o p k n)
-
-moves-as : (h : Rulebook) (s : Standing) (x : Instruction) (k : Kind) → OfTrade (Some k) → first (all_checks h (Some k) (s.state x.trade) (s.terms x.trade) s x) ≡ Ok tt
-    → Steps (s.state x.trade) k (turned (after (Some k)) s.state x.trade x.trade)
-moves-as h s x Issue t p = absurd t
-moves-as h s x PayIn t p = absurd t
-moves-as h s x Enter t p = steps Enter (s.state x.trade) Entered s.state x.trade refl (right h (Some Enter) (s.state x.trade) (s.terms x.trade) s x t p).from
-moves-as h s x Earmark t p = steps Earmark (s.state x.trade) Earmarked s.state x.trade refl (right h (Some Earmark) (s.state x.trade) (s.terms x.trade) s x t p).from
-moves-as h s x Fund t p = steps Fund (s.state x.trade) Funded s.state x.trade refl (right h (Some Fund) (s.state x.trade) (s.terms x.trade) s x t p).from
-moves-as h s x Settle t p = steps Settle (s.state x.trade) Settled s.state x.trade refl (right h (Some Settle) (s.state x.trade) (s.terms x.trade) s x t p).from
-moves-as h s x Free t p = steps Free (s.state x.trade) Freed s.state x.trade refl (right h (Some Free) (s.state x.trade) (s.terms x.trade) s x t p).from
+    subst (λ q. Steps o n q) (sym v) (state-table.only o p n (ap (λ a. next a o) c ∙ b))
 
 -- an accepted instruction of a trade moves it by one of the table's steps
-pub moves : (h : Rulebook) (s : Standing) (x : Instruction) → answer h s x ≡ Ok tt → (k : Kind) → kind_at x.kind ≡ Some k → OfTrade (Some k)
-    → Steps (s.state x.trade) k ((effect s x).state x.trade)
-moves h s x ok k e t =
-    let m = moves-as h s x k t (subst (λ a. first (all_checks h a (s.state x.trade) (s.terms x.trade) s x) ≡ Ok tt) e ok) in
-    subst (λ a. Steps (s.state x.trade) k (turned (after a) s.state x.trade x.trade)) (sym e) m
+pub moves : (h : Rulebook) (s : Standing) (x : Instruction) → answer h s x ≡ Ok tt → 3 ≤ x.kind → x.kind ≤ 7
+    → Steps (s.state x.trade) x.kind ((effect s x).state x.trade)
+moves h s x ok l m =
+    let o = s.state x.trade in
+    let tm = s.terms x.trade in
+    by-byte (λ k n. first (all_checks h k o tm s x) ≡ Ok tt → 3 ≤ n → n ≤ 7 → Steps o n (turned (after k) s.state x.trade x.trade))
+    (λ p l m. absurd (omega arith)) (λ p l m. absurd (omega arith))
+    (λ p l m. steps Enter 3 refl o Entered s.state x.trade refl (right h (Some Enter) o tm s x tt p).from)
+    (λ p l m. steps Earmark 4 refl o Earmarked s.state x.trade refl (right h (Some Earmark) o tm s x tt p).from)
+    (λ p l m. steps Fund 5 refl o Funded s.state x.trade refl (right h (Some Fund) o tm s x tt p).from)
+    (λ p l m. steps Settle 6 refl o Settled s.state x.trade refl (right h (Some Settle) o tm s x tt p).from)
+    (λ p l m. steps Free 7 refl o Freed s.state x.trade refl (right h (Some Free) o tm s x tt p).from)
+    (λ n h p l m. absurd (h l m)) x.kind ok l m

@@ -76,7 +76,7 @@ module _ (h : Rulebook) where
   found {xs} {s} r d t o l e ho =
       let m = s.terms t in
       let f = fair h r d (giver d m) (asset d m) in
-      let q = covers d (s.book d) s.state s.terms (credits d xs (giver d m) (asset d m)) (giver d m) (asset d m) t o Unentered l e f ho (holds-not d) in
+      let q = covers d (s.book d) s.state s.terms (credits (giver d m) (asset d m) d xs) (giver d m) (asset d m) t o Unentered l e f ho (holds-not d) in
       let w : only (here (giver d m) (asset d m) (giver d m) (asset d m)) (volume d m) ≡ volume d m = rw (eq-eqb (giver d m) (giver d m) refl, eq-eqb (asset d m) (asset d m) refl) in
       omega (arith, q, w)
 

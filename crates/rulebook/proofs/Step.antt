@@ -12,7 +12,7 @@ use Rattle.rulebook.specs.declared.Terms.{Terms}
 use Rattle.rulebook.specs.Table.{Act, after}
 use Rattle.rulebook.specs.Terms.{Side, securities, cash, giver, taker, asset, volume}
 use Rattle.rulebook.specs.Rules.{Rulebook, Standing, holds, is_settled, all_checks, at, turned, is_enter, terms_after, deed}
-use Rattle.rulebook.specs.Tally.{give_of, take_of, hold_of, over, held}
+use Rattle.rulebook.proofs.Replay.{give_of, take_of, hold_of, over}
 use Rattle.rulebook.proofs.Checks.{cleared, right, Idle, enter-idle, entered-idle, earmark-idle, fund-from, settle-from, free-from}
 use Rattle.book.proofs.Totals.{enough}
 use Rattle.rulebook.proofs.Fair.{enters, shift-if}

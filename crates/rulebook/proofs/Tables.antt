@@ -1,43 +1,57 @@
 -- The table of states agrees with its words. Assumes nothing.
-use Rattle.std.proofs.Common.{◌≡◌, Some, None, Option, refl, arith}
-use Rattle.instruction.specs.declared.Kind.{Kind}
+use Rattle.std.proofs.Common.{◌≡◌, ℕ, Some, None, Option, refl, arith}
 use Rattle.instruction.specs.declared.Kind.TheVariants.{Enter, Earmark, Fund, Settle, Free}
+use Rattle.instruction.specs.Kinds.{kind_at}
 use Rattle.rulebook.specs.declared.State.{State}
 use Rattle.rulebook.specs.declared.State.TheVariants.{Unentered, Entered, Earmarked, Funded}
 use Rattle.rulebook.specs.Table.{next, Steps, enters, earmarks, funds, settles, freed-entered, freed-earmarked, freed-funded, StateTable}
+use Rattle.rulebook.proofs.Bytes.{by-byte}
 
 -- where the words lead from a state
-abbrev Leads : Option State → State → Kind → Type 0
-Leads None o k = Unit {0}
-Leads (Some p) o k = Steps o k p
+abbrev Leads : Option State → State → ℕ → Type 0
+Leads None o n = Unit {0}
+Leads (Some p) o n = Steps o n p
 
-leads : (k : Kind) (o : State) → Leads (next (Some k) o) o k
-leads Enter Unentered = enters
-leads Earmark Entered = earmarks
-leads Fund Earmarked = funds
-leads Settle Funded = settles
-leads Free Entered = freed-entered
-leads Free Earmarked = freed-earmarked
-leads Free Funded = freed-funded
-leads k o = tt
+enter : (o : State) → Leads (next (Some Enter) o) o 3
+enter Unentered = enters
+enter o = tt
 
-only : (o p : State) (k : Kind) → next (Some k) o ≡ Some p → Steps o k p
-only o p k e = rw e at (leads k o)
+earmark : (o : State) → Leads (next (Some Earmark) o) o 4
+earmark Entered = earmarks
+earmark o = tt
 
-each : (o p : State) (k : Kind) → Steps o k p → next (Some k) o ≡ Some p
-each o p k enters = refl
-each o p k earmarks = refl
-each o p k funds = refl
-each o p k settles = refl
-each o p k freed-entered = refl
-each o p k freed-earmarked = refl
-each o p k freed-funded = refl
+fund : (o : State) → Leads (next (Some Fund) o) o 5
+fund Earmarked = funds
+fund o = tt
+
+settle : (o : State) → Leads (next (Some Settle) o) o 6
+settle Funded = settles
+settle o = tt
+
+free : (o : State) → Leads (next (Some Free) o) o 7
+free Entered = freed-entered
+free Earmarked = freed-earmarked
+free Funded = freed-funded
+free o = tt
+
+only : (o p : State) (n : ℕ) → next (kind_at n) o ≡ Some p → Steps o n p
+only o p n e =
+    rw e at (by-byte (λ k n. Leads (next k o) o n) tt tt (enter o) (earmark o) (fund o) (settle o) (free o) (λ n h. tt) n)
+
+each : (o p : State) (n : ℕ) → Steps o n p → next (kind_at n) o ≡ Some p
+each o p n enters = refl
+each o p n earmarks = refl
+each o p n funds = refl
+each o p n settles = refl
+each o p n freed-entered = refl
+each o p n freed-earmarked = refl
+each o p n freed-funded = refl
 
 pub state-table : StateTable
 state-table = record {
   only = only;
   each = each;
-  no-return = λ o k e. grind arith;
-  settled-stays = λ p k e. grind arith;
-  freed-stays = λ p k e. grind arith;
+  no-return = λ o n e. grind arith;
+  settled-stays = λ p n e. grind arith;
+  freed-stays = λ p n e. grind arith;
 }

@@ -1,5 +1,5 @@
 -- The law over whole runs. Assumes nothing.
-use Rattle.std.proofs.Common.{◌≡◌, ℕ, List, sym, refl, ap, ◌∙◌, subst₂, arith}
+use Rattle.std.proofs.Common.{◌≡◌, ℕ, List, sym, refl, ap, ◌∙◌, subst, arith}
 use Rattle.std.proofs.lemmas.List.Sums.{fold_push, sum_by_push}
 use Rattle.instruction.specs.declared.Instruction.{Instruction}
 use Rattle.instruction.specs.Kinds.{kind_at}
@@ -9,11 +9,15 @@ use Rattle.rulebook.specs.declared.State.TheVariants.{Unentered}
 use Rattle.rulebook.specs.Table.{after}
 use Rattle.rulebook.specs.Terms.{no_terms, Side, securities, cash}
 use Rattle.rulebook.specs.Rules.{Rulebook, Standing, turned, is_enter, terms_after, Runs, start, more}
-use Rattle.rulebook.specs.Tally.{read_state, state_in, read_terms, terms_in, credit_at, credits, give_of, take_of, hold_of}
+use Rattle.rulebook.proofs.Replay.{read_state, state_in, read_terms, terms_in, give_of, take_of, hold_of}
+use Rattle.rulebook.specs.Tally.{credit, credits}
+use Rattle.rulebook.proofs.Fields.{given-is, received-is, held-is}
+use Rattle.rulebook.proofs.Meanings.{stay, after-last, stated-last}
+use Rattle.rulebook.specs.Words.{After, Stated}
 use Rattle.rulebook.specs.Law.{LawOfTheLedger}
 use Rattle.rulebook.proofs.Step.{Fair, credited_by, fair-step}
 
-credit-code : (d : Side) (x : Instruction) (a i : ℕ) → credit_at d x a i ≡ credited_by (kind_at x.kind) d x a i
+credit-code : (d : Side) (x : Instruction) (a i : ℕ) → credit a i d x ≡ credited_by (kind_at x.kind) d x a i
 credit-code securities x a i = grind arith
 credit-code cash x a i = grind arith
 
@@ -39,17 +43,21 @@ module _ (h : Rulebook) where
       holds-none securities = refl
       holds-none cash = refl
 
-  pub fair : {xs : List Instruction} {s : Standing} → Runs h xs s → (d : Side) (a i : ℕ) → Fair d (s.book d) s.state s.terms (credits d xs a i) a i
+  pub fair : {xs : List Instruction} {s : Standing} → Runs h xs s → (d : Side) (a i : ℕ) → Fair d (s.book d) s.state s.terms (credits a i d xs) a i
   fair start d a i = fair-start d a i
   fair (more {xs = xs} {s = s} x r e) d a i =
-      rw (sum_by_push (λ y. credit_at d y a i) xs x)
-      (fair-step h s x a i (kind_at x.kind) d (s.state x.trade) (credits d xs a i) (credit_at d x a i) (credit-code d x a i) (fair r d a i) refl e)
+      rw (sum_by_push (λ y. credit a i d y) xs x)
+      (fair-step h s x a i (kind_at x.kind) d (s.state x.trade) (credits a i d xs) (credit a i d x) (credit-code d x a i) (fair r d a i) refl e)
 
 pub law-of-the-ledger : LawOfTheLedger
 law-of-the-ledger h xs s r = record {
-  states = λ t. ap (λ f. f t) (state-is h r);
-  terms = λ t. ap (λ f. f t) (terms-is h r);
+  unentered = λ t n. ap (λ f. f t) (state-is h r) ∙ stay xs (λ t. Unentered) t n;
+  states = λ t x l. subst (λ f. After x.kind (f t)) (sym (state-is h r)) (after-last xs (λ t. Unentered) x t l);
+  terms = λ t x l. subst (λ f. Stated x (f t)) (sym (terms-is h r)) (stated-last xs (λ t. no_terms) x t l);
   amounts = λ d a i.
-      let f = subst₂ (λ st tm. Fair d (s.book d) st tm (credits d xs a i) a i) (state-is h r) (terms-is h r) (fair h r d a i) in
-      record { whole = f.whole; part = f.part };
+      let f = fair h r d a i in
+      let g = given-is a i d s.state s.terms in
+      let k = received-is a i d s.state s.terms in
+      let m = held-is a i d s.state s.terms in
+      record { whole = omega (arith, f.whole, g, k); part = f.part ∙ sym m };
 }

@@ -1,5 +1,5 @@
--- The rule book: what an instruction is answered, and what an accepted one changes. Assumes nothing.
-use Rattle.std.specs.Prelude.{◌≡◌, ℕ, Bool, true, false, cond, not, ◌||◌, T, leb, List, [], ◌∷◌, ◌++◌, Some, None, Ok, Err, Option, Result, ◌==◌, nat_eq, nat_le, nat_lt}
+-- The rule book: what an instruction is answered, and what an accepted one changes.
+use Rattle.std.specs.Prelude.{◌≡◌, ℕ, ◌≤◌, Bool, true, false, cond, not, ◌||◌, T, leb, List, [], ◌∷◌, ◌++◌, Some, None, Ok, Err, Option, Result, ◌==◌, nat_eq, nat_le, nat_lt}
 use Rattle.std.specs.Option.{option_map}
 use Rattle.answers.specs.declared.Refusal.{Refusal}
 use Rattle.answers.specs.declared.Fault.{Fault}
@@ -7,8 +7,10 @@ use Rattle.answers.specs.Faults.{plain, of_trade}
 use Rattle.instruction.specs.declared.Kind.TheVariants.{Issue, PayIn, Enter, Earmark, Fund, Settle, Free}
 use Rattle.instruction.specs.declared.Instruction.{Instruction}
 use Rattle.instruction.specs.Kinds.{kind_at}
+use Rattle.book.specs.declared.TheConstants.{ACCOUNTS}
 use Rattle.book.specs.Holdings.{Holdings, BookKind, nothing, Deed, keep, crediting, blocking, releasing, moving, apply}
 use Rattle.book.specs.Rulings.{Check, ◌refuses◌, first, checks, on_ok}
+use Rattle.rulebook.specs.declared.TheConstants.{TRADES}
 use Rattle.rulebook.specs.declared.State.{State}
 use Rattle.rulebook.specs.declared.State.TheVariants.{Unentered, Earmarked, Funded, Settled}
 use Rattle.rulebook.specs.declared.Terms.{Terms}
@@ -50,12 +52,16 @@ known h (Some k) = true
 
 -- some field other than the kind and the trade is not 0
 abbrev pub past_trade : Instruction → Bool
-past_trade x = non_zero x.account || (non_zero x.counterparty || (non_zero x.item || (non_zero x.currency || (non_zero x.quantity || non_zero x.amount))))
+past_trade x =
+    non_zero x.account || (non_zero x.counterparty || (non_zero x.item
+    || (non_zero x.currency || (non_zero x.quantity || non_zero x.amount))))
 
 -- a field that the kind does not use is not 0
 abbrev pub stray : Act → Instruction → Bool
-stray (Some Issue) x = non_zero x.counterparty || (non_zero x.currency || (non_zero x.trade || non_zero x.amount))
-stray (Some PayIn) x = non_zero x.counterparty || (non_zero x.item || (non_zero x.trade || non_zero x.quantity))
+stray (Some Issue) x =
+    non_zero x.counterparty || (non_zero x.currency || (non_zero x.trade || non_zero x.amount))
+stray (Some PayIn) x =
+    non_zero x.counterparty || (non_zero x.item || (non_zero x.trade || non_zero x.quantity))
 stray (Some Enter) x = false
 stray (Some Earmark) x = past_trade x
 stray (Some Fund) x = past_trade x
@@ -65,7 +71,7 @@ stray None x = false
 
 -- the trade's number, then its state
 abbrev pub trade_checks : Act → ℕ → State → Instruction → List Check → List Check
-trade_checks k n o x cs = leb 128 x.trade refuses 30 ∷ not (starts k o) refuses n ∷ cs
+trade_checks k n o x cs = leb TRADES x.trade refuses 30 ∷ not (starts k o) refuses n ∷ cs
 
 abbrev pub enough_free : Side → Terms → Standing → Check
 enough_free d m s = nat_lt ((s.book d).free (giver d m) (asset d m)) (volume d m) refuses 25
@@ -75,16 +81,20 @@ module _ (h : Rulebook) where
   abbrev pub enter_checks : Instruction → List Check
   enter_checks x =
       nat_eq x.account x.counterparty refuses 33
-      ∷ (nat_le 64 x.account || nat_le 64 x.counterparty) refuses 21
-      ∷ (nat_le (h.kind securities).items x.item || nat_le (h.kind cash).items x.currency) refuses 22
+      ∷ (nat_le ACCOUNTS x.account || nat_le ACCOUNTS x.counterparty) refuses 21
+      ∷ (nat_le (h.kind securities).items x.item || nat_le (h.kind cash).items x.currency)
+      refuses 22
       ∷ (x.quantity == 0 || x.amount == 0) refuses 23 ∷ []
 
   -- the checks of each kind, the trade being in state o on terms m
   abbrev pub checks_of : Act → State → Terms → Standing → Instruction → List Check
-  checks_of (Some Issue) o m s x = checks (h.kind securities) (s.book securities) (crediting x.account x.item x.quantity)
-  checks_of (Some PayIn) o m s x = checks (h.kind cash) (s.book cash) (crediting x.account x.currency x.amount)
+  checks_of (Some Issue) o m s x =
+      checks (h.kind securities) (s.book securities) (crediting x.account x.item x.quantity)
+  checks_of (Some PayIn) o m s x =
+      checks (h.kind cash) (s.book cash) (crediting x.account x.currency x.amount)
   checks_of (Some Enter) o m s x = trade_checks (Some Enter) 34 o x (enter_checks x)
-  checks_of (Some Earmark) o m s x = trade_checks (Some Earmark) 35 o x (enough_free securities m s ∷ [])
+  checks_of (Some Earmark) o m s x =
+      trade_checks (Some Earmark) 35 o x (enough_free securities m s ∷ [])
   checks_of (Some Fund) o m s x = trade_checks (Some Fund) 35 o x (enough_free cash m s ∷ [])
   checks_of (Some Settle) o m s x = trade_checks (Some Settle) 35 o x []
   checks_of (Some Free) o m s x = trade_checks (Some Free) 35 o x []
@@ -118,6 +128,16 @@ OfTrade k = T (names_trade k)
 abbrev pub about : Instruction → Fault → Fault
 about x f = cond (names_trade (kind_at x.kind)) (of_trade x.trade f) f
 
+-- By the kind bytes: at 3 to 7 the fault names the trade, at any other it names what it named; and it
+-- is as it was in all else.
+pub record IsAbout (x : Instruction) (f about-x : Fault) : Type 0 where
+  pub named : 3 ≤ x.kind → x.kind ≤ 7 → about-x.trade ≡ Some x.trade
+  pub refusal : about-x.refusal ≡ f.refusal
+  pub block : about-x.block ≡ f.block
+  pub entry : about-x.entry ≡ f.entry
+  pub rule : about-x.rule ≡ f.rule
+  pub other : (3 ≤ x.kind → x.kind ≤ 7 → ⊥) → about-x.trade ≡ f.trade
+
 -- so does its refusal
 abbrev pub fault_of : Instruction → Refusal → Fault
 fault_of x r = about x (plain r)
@@ -147,10 +167,13 @@ terms_after false f x = f
 
 -- a trade after an instruction that its state lets start
 abbrev pub turned_trade : Act → Instruction → Trade → Option Trade
-turned_trade k x trade = option_map (λ p. record { state = p; terms = cond (is_enter k) (terms_of x) trade.terms }) (next k trade.state)
+turned_trade k x trade =
+    option_map (λ p. record { state = p; terms = cond (is_enter k) (terms_of x) trade.terms })
+    (next k trade.state)
 
--- what each book does: Issue credits the register and Pay in the cash book; Earmark blocks the seller's quantity
--- and Fund the buyer's amount; Settle moves both; Free releases what the trade has blocked
+-- what each book does: Issue credits the register and Pay in the cash book; Earmark blocks the
+-- seller's quantity and Fund the buyer's amount; Settle moves both; Free releases what the trade has
+-- blocked
 abbrev pub deed : Act → Side → State → Terms → Instruction → Deed
 deed (Some Issue) securities o m x = crediting x.account x.item x.quantity
 deed (Some Issue) cash o m x = keep
@@ -184,7 +207,9 @@ step h s x = on_ok (answer h s x) (effect s x) s
 -- the list, from the empty standing, is accepted one instruction after another and leads to s
 pub data Runs (h : Rulebook) : List Instruction → Standing → Type 0 where
   start : Runs h [] empty
-  more : {xs : List Instruction} {s : Standing} (x : Instruction) → Runs h xs s → answer h s x ≡ Ok tt → Runs h (xs ++ (x ∷ [])) (effect s x)
+  more :
+      {xs : List Instruction} {s : Standing} (x : Instruction) → Runs h xs s → answer h s x ≡ Ok tt
+      → Runs h (xs ++ (x ∷ [])) (effect s x)
 
 -- some list of accepted instructions leads here
 abbrev pub Reached : Rulebook → Standing → Type 0

@@ -1,7 +1,8 @@
--- The table of states: which kind of instruction starts from which states and leads to which. Assumes nothing.
+-- The table of states: which kind of instruction starts from which states and leads to which.
 use Rattle.std.specs.Prelude.{◌≡◌, ℕ, Bool, false, cond, ◌||◌, List, [], ◌∷◌, Some, None, Option, ◌==◌, ◌≢◌}
 use Rattle.instruction.specs.declared.Kind.{Kind}
 use Rattle.instruction.specs.declared.Kind.TheVariants.{Issue, PayIn, Enter, Earmark, Fund, Settle, Free}
+use Rattle.instruction.specs.Kinds.{kind_at}
 use Rattle.rulebook.specs.declared.State.{State}
 use Rattle.rulebook.specs.declared.State.TheVariants.{Unentered, Entered, Earmarked, Funded, Settled, Freed}
 
@@ -51,22 +52,22 @@ starts k o = among o (before k)
 abbrev pub next : Act → State → Option State
 next k o = cond (starts k o) (after k) None
 
--- The same table, in words: these steps, and no others.
-pub data Steps : State → Kind → State → Type 0 where
-  enters : Steps Unentered Enter Entered
-  earmarks : Steps Entered Earmark Earmarked
-  funds : Steps Earmarked Fund Funded
-  settles : Steps Funded Settle Settled
-  freed-entered : Steps Entered Free Freed
-  freed-earmarked : Steps Earmarked Free Freed
-  freed-funded : Steps Funded Free Freed
+-- The same table in words of its own, by the kind byte: these steps, and no others.
+pub data Steps : State → ℕ → State → Type 0 where
+  enters : Steps Unentered 3 Entered
+  earmarks : Steps Entered 4 Earmarked
+  funds : Steps Earmarked 5 Funded
+  settles : Steps Funded 6 Settled
+  freed-entered : Steps Entered 7 Freed
+  freed-earmarked : Steps Earmarked 7 Freed
+  freed-funded : Steps Funded 7 Freed
 
 pub record StateTable : Type 0 where
   -- each step is one of the words
-  pub only : (o p : State) (k : Kind) → next (Some k) o ≡ Some p → Steps o k p
+  pub only : (o p : State) (n : ℕ) → next (kind_at n) o ≡ Some p → Steps o n p
   -- each of the words is a step
-  pub each : (o p : State) (k : Kind) → Steps o k p → next (Some k) o ≡ Some p
+  pub each : (o p : State) (n : ℕ) → Steps o n p → next (kind_at n) o ≡ Some p
   -- a trade that was entered is never unentered again, and a settled or freed one stays so
-  pub no-return : (o : State) (k : Kind) → next (Some k) o ≢ Some Unentered
-  pub settled-stays : (p : State) (k : Kind) → next (Some k) Settled ≢ Some p
-  pub freed-stays : (p : State) (k : Kind) → next (Some k) Freed ≢ Some p
+  pub no-return : (o : State) (n : ℕ) → next (kind_at n) o ≢ Some Unentered
+  pub settled-stays : (p : State) (n : ℕ) → next (kind_at n) Settled ≢ Some p
+  pub freed-stays : (p : State) (n : ℕ) → next (kind_at n) Freed ≢ Some p

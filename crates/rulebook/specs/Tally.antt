@@ -1,57 +1,57 @@
--- What a list of instructions says of states, terms and sums, with no replay of the books. Assumes nothing.
-use Rattle.std.specs.Prelude.{ℕ, List, fold, sum_by, ◌==◌}
+-- The sums of the law, by the fields alone: credits over a list of instructions; given, received and
+-- held over all trades.
+use Rattle.std.specs.Prelude.{ℕ, if◌then◌else◌, List, sum_by, ◌==◌}
+use Rattle.std.specs.List.{range_with_len}
 use Rattle.instruction.specs.declared.Instruction.{Instruction}
-use Rattle.instruction.specs.Kinds.{kind_at}
-use Rattle.book.specs.Sums.{up_to, only, here}
 use Rattle.rulebook.specs.declared.State.{State}
-use Rattle.rulebook.specs.declared.State.TheVariants.{Unentered}
+use Rattle.rulebook.specs.declared.State.TheVariants.{Earmarked, Funded, Settled}
 use Rattle.rulebook.specs.declared.Terms.{Terms}
-use Rattle.rulebook.specs.Table.{after}
-use Rattle.rulebook.specs.Terms.{no_terms, Side, securities, cash, giver, taker, asset, volume}
-use Rattle.rulebook.specs.Rules.{turned, is_enter, terms_after, holds, is_settled}
+use Rattle.rulebook.specs.declared.TheConstants.{TRADES}
+use Rattle.rulebook.specs.Terms.{Side, securities, cash}
+use Rattle.rulebook.specs.Rules.{Standing}
 
--- a trade's state is that after its last instruction
-abbrev pub read_state : (ℕ → State) → Instruction → ℕ → State
-read_state f x = turned (after (kind_at x.kind)) f x.trade
+-- the numbers of the trades
+unfoldable pub trades : List ℕ
+trades = range_with_len 0 TRADES
 
-abbrev pub state_in : List Instruction → ℕ → State
-state_in xs = fold read_state (λ t. Unentered) xs
+-- Sums for one account and one item of a side's book. An item of the cash book is a currency.
+module _ (account item : ℕ) where
+  -- a quantity of the item I of the account A counts if they are these
+  abbrev pub counted : ℕ → ℕ → ℕ → ℕ
+  counted A I quantity = if A == account then (if I == item then quantity else 0) else 0
 
-abbrev pub read_terms : (ℕ → Terms) → Instruction → ℕ → Terms
-read_terms f x = terms_after (is_enter (kind_at x.kind)) f x
+  -- Issue credits the register, and Pay in the cash book
+  abbrev pub credit : Side → Instruction → ℕ
+  credit securities x = if x.kind == 1 then counted x.account x.item x.quantity else 0
+  credit cash x = if x.kind == 2 then counted x.account x.currency x.amount else 0
 
--- its terms those of its last Enter
-abbrev pub terms_in : List Instruction → ℕ → Terms
-terms_in xs = fold read_terms (λ t. no_terms) xs
+  -- in a settled trade the seller gave the quantity of the item, the buyer the amount of the currency
+  abbrev pub gift : Side → State → Terms → ℕ
+  gift securities Settled m = counted m.seller m.item m.quantity
+  gift cash Settled m = counted m.buyer m.currency m.amount
+  gift d o m = 0
 
--- what one instruction credits: Issue its quantity, Pay in its amount
-abbrev pub credit_at : Side → Instruction → ℕ → ℕ → ℕ
-credit_at securities x a i = only (x.kind == 1) (only (here x.account x.item a i) x.quantity)
-credit_at cash x a i = only (x.kind == 2) (only (here x.account x.currency a i) x.amount)
+  -- and each received what the other gave
+  abbrev pub receipt : Side → State → Terms → ℕ
+  receipt securities Settled m = counted m.buyer m.item m.quantity
+  receipt cash Settled m = counted m.seller m.currency m.amount
+  receipt d o m = 0
 
-abbrev pub credits : Side → List Instruction → ℕ → ℕ → ℕ
-credits d xs a i = sum_by (λ x. credit_at d x a i) xs
+  -- an earmarked trade holds the seller's quantity, a funded one the buyer's amount too
+  abbrev pub hold : Side → State → Terms → ℕ
+  hold securities Earmarked m = counted m.seller m.item m.quantity
+  hold securities Funded m = counted m.seller m.item m.quantity
+  hold cash Funded m = counted m.buyer m.currency m.amount
+  hold d o m = 0
 
--- what one trade in a state, on terms, counts for the account a and the item i: given and received where it is
--- settled, held where it has something blocked
-abbrev pub give_of : Side → ℕ → ℕ → State → Terms → ℕ
-give_of d a i s m = only (is_settled s) (only (here (giver d m) (asset d m) a i) (volume d m))
+  abbrev pub credits : Side → List Instruction → ℕ
+  credits d xs = sum_by (λ x. credit d x) xs
 
-abbrev pub take_of : Side → ℕ → ℕ → State → Terms → ℕ
-take_of d a i s m = only (is_settled s) (only (here (taker d m) (asset d m) a i) (volume d m))
+  abbrev pub given : Side → Standing → ℕ
+  given d s = sum_by (λ t. gift d (s.state t) (s.terms t)) trades
 
-abbrev pub hold_of : Side → ℕ → ℕ → State → Terms → ℕ
-hold_of d a i s m = only (holds d s) (only (here (giver d m) (asset d m) a i) (volume d m))
+  abbrev pub received : Side → Standing → ℕ
+  received d s = sum_by (λ t. receipt d (s.state t) (s.terms t)) trades
 
--- over all trades
-abbrev pub over : (State → Terms → ℕ) → (ℕ → State) → (ℕ → Terms) → ℕ
-over c st tm = up_to 128 (λ t. c (st t) (tm t))
-
-abbrev pub given : Side → List Instruction → ℕ → ℕ → ℕ
-given d xs a i = over (give_of d a i) (state_in xs) (terms_in xs)
-
-abbrev pub received : Side → List Instruction → ℕ → ℕ → ℕ
-received d xs a i = over (take_of d a i) (state_in xs) (terms_in xs)
-
-abbrev pub held : Side → List Instruction → ℕ → ℕ → ℕ
-held d xs a i = over (hold_of d a i) (state_in xs) (terms_in xs)
+  abbrev pub held : Side → Standing → ℕ
+  held d s = sum_by (λ t. hold d (s.state t) (s.terms t)) trades

@@ -7,7 +7,14 @@ abbrev pub no_terms : Terms
 no_terms = record { seller = 0; buyer = 0; item = 0; currency = 0; quantity = 0; amount = 0 }
 
 abbrev pub terms_of : Instruction → Terms
-terms_of x = record { seller = x.account; buyer = x.counterparty; item = x.item; currency = x.currency; quantity = x.quantity; amount = x.amount }
+terms_of x = record {
+  seller = x.account;
+  buyer = x.counterparty;
+  item = x.item;
+  currency = x.currency;
+  quantity = x.quantity;
+  amount = x.amount;
+}
 
 pub data Side : Type 0 where
   securities cash : Side

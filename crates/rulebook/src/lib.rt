@@ -4,10 +4,13 @@
 ghost use Rattle.std.specs.Prelude.{◌≡◌, Some};
 ghost use Rattle.rulebook.specs.Table.{next as next_state};
 ghost use Rattle.rulebook.specs.Terms.{terms_of};
-ghost use Rattle.rulebook.specs.Rules.{turned_trade, about as about_trade};
+ghost use Rattle.rulebook.specs.Rules.{turned_trade, about as about_trade, IsAbout};
 
 use answers::Fault;
 use instruction::{Instruction, Kind};
+
+// How many trades there are, numbered from 0.
+pub const TRADES: usize = 128;
 
 #[derive(Clone, Copy, Debug, PartialEq, Eq)]
 pub enum State {
@@ -82,7 +85,8 @@ impl Trade {
 
 // A fault of an instruction that is about a trade names that trade.
 pub fn about(x: &Instruction, fault: Fault) -> Fault
-    ensures { result ≡ about_trade x.now fault }
+    ensures value { result ≡ about_trade x.now fault }
+    ensures named { IsAbout x.now fault result }
 {
     match Kind::try_from(x.kind) {
         Ok(Kind::Issue | Kind::PayIn) | Err(_) => fault,

@@ -14,7 +14,9 @@ use Rattle.balances.specs.Rows.{balances_kind}
 use Rattle.lots.specs.Owners.{lots_kind}
 use Rattle.journal.specs.Blocks.{zeros, is_mark}
 use Rattle.instruction.specs.Layout.{on_trade}
-use Rattle.trials.specs.Marked.{entering, MarkedTrials}
+use Rattle.trials.proofs.Settled.{settled, answered-by-hand}
+use Rattle.trials.specs.ByHand.{order}
+use Rattle.trials.specs.Marked.{MarkedTrials}
 
 nothing-in-all : (i : ℕ) → total nothing i ≡ 0
 nothing-in-all i = up_to-zero 64 (λ a. 0) (λ a. refl)
@@ -45,7 +47,7 @@ credit-of-a-lot a i la li = rw (lt-leb 64 a la, lt-leb 256 i li, nothing-in-all 
 pub credit-of-two : (a i : ℕ) → a < 64 → i < 256 → answer_number (ruling lots_kind nothing (crediting a i 2)) ≡ 24
 credit-of-two a i la li = rw (lt-leb 64 a la, lt-leb 256 i li, nothing-in-all i)
 
-pub same-parties : (h : Rulebook) (item currency trade quantity amount : ℕ) → trade < 128 → answer_number (answer h empty (entering 70 70 item currency trade quantity amount)) ≡ 33
+pub same-parties : (h : Rulebook) (item currency trade quantity amount : ℕ) → trade < 128 → answer_number (answer h empty (order 3 70 70 item currency trade quantity amount)) ≡ 33
 same-parties h item currency trade quantity amount l = rw (lt-leb 128 trade l)
 
 settle-too-early : (h : Rulebook) (s : Standing) (t : ℕ) → t < 128 → s.state t ≡ Earmarked → answer_number (answer h s (on_trade Settle t)) ≡ 35
@@ -64,6 +66,8 @@ marked-trials = record {
   earmark-bytes = refl;
   same-parties = same-parties;
   settle-too-early = settle-too-early;
+  settlement = settled;
+  answers = answered-by-hand;
   mark-bytes = refl;
   zeros-no-mark = zeros-no-mark;
 }

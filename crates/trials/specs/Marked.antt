@@ -1,9 +1,7 @@
 -- The trials whose results are proved, a row each. Assumes nothing.
 use Rattle.std.specs.Prelude.{◌≡◌, ℕ, ◌<◌, false, List, ◌∷◌, ◌++◌, replicate}
 use Rattle.answers.specs.Numbers.{answer_number}
-use Rattle.instruction.specs.declared.Kind.TheVariants.{Enter, Earmark, Settle}
-use Rattle.instruction.specs.declared.Instruction.{Instruction}
-use Rattle.instruction.specs.Kinds.{code_of}
+use Rattle.instruction.specs.declared.Kind.TheVariants.{Earmark, Settle}
 use Rattle.instruction.specs.Layout.{on_trade, bytes_of}
 use Rattle.book.specs.Holdings.{nothing, crediting, blocking, apply}
 use Rattle.book.specs.Rulings.{ruling}
@@ -13,10 +11,7 @@ use Rattle.rulebook.specs.declared.State.TheVariants.{Earmarked}
 use Rattle.rulebook.specs.Rules.{Rulebook, Standing, empty, answer}
 use Rattle.journal.specs.Blocks.{zeros, mark_bytes, is_mark}
 use Rattle.trials.specs.declared.Outcomes.{Outcomes}
-
-abbrev pub entering : ℕ → ℕ → ℕ → ℕ → ℕ → ℕ → ℕ → Instruction
-entering seller buyer item currency trade quantity amount =
-    record { kind = code_of Enter; account = seller; counterparty = buyer; item = item; currency = currency; trade = trade; quantity = quantity; amount = amount }
+use Rattle.trials.specs.ByHand.{order, trade_7, after_all, EightAmounts, eight_amounts, AnsweredByHand}
 
 -- Earmark of trade 7: 04, eleven zeros, 07, nineteen zeros
 abbrev pub earmark7 : List ℕ
@@ -37,9 +32,13 @@ pub record MarkedTrials : Type 0 where
   pub credit-of-two : (a i : ℕ) → a < 64 → i < 256 → answer_number (ruling lots_kind nothing (crediting a i 2)) ≡ 24
   pub earmark-bytes : bytes_of (on_trade Earmark 7) ≡ earmark7
   -- seller 70 and buyer 70: the same account, before there being no such account
-  pub same-parties : (h : Rulebook) (item currency trade quantity amount : ℕ) → trade < 128 → answer_number (answer h empty (entering 70 70 item currency trade quantity amount)) ≡ 33
+  pub same-parties : (h : Rulebook) (item currency trade quantity amount : ℕ) → trade < 128 → answer_number (answer h empty (order 3 70 70 item currency trade quantity amount)) ≡ 33
   -- a trade that is earmarked and not funded is not settled
   pub settle-too-early : (h : Rulebook) (s : Standing) (t : ℕ) → t < 128 → s.state t ≡ Earmarked → answer_number (answer h s (on_trade Settle t)) ≡ 35
+  -- a trade settled: what the seller and the buyer have then
+  pub settlement : EightAmounts (after_all trade_7)
+  -- each number that an instruction may be answered
+  pub answers : AnsweredByHand
   pub mark-bytes : mark_bytes 0 ≡ first_mark
   -- a block of zeros is the good mark of no entry
   pub zeros-no-mark : (k : ℕ) → is_mark k zeros ≡ false
@@ -54,6 +53,7 @@ expected = record {
   credit_of_two = 24;
   earmark_bytes = earmark7;
   same_parties = 33;
+  settlement = eight_amounts;
   first_mark = first_mark;
   zeros_are_a_mark = false;
 }

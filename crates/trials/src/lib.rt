@@ -7,14 +7,24 @@ ghost use Rattle.book.specs.Holdings.{nothing, crediting};
 ghost use Rattle.book.specs.Rulings.{ruling};
 ghost use Rattle.lots.specs.Owners.{lots_kind};
 ghost use Rattle.trials.specs.Marked.{earmark7, expected, MarkedTrials};
+ghost use Rattle.trials.specs.ByHand.{eight_amounts};
 
 use answers::{answer_number, fault_number};
 use balances::Balances;
-use book::Book;
+use book::{Book, Holding};
 use instruction::{Instruction, Kind};
 use journal::{is_good_mark, mark_block};
 use ledger::Ledger;
 use lots::Lots;
+
+// What the seller and the buyer of a settled trade have of its item and of its currency.
+#[derive(Clone, Copy, Debug, PartialEq, Eq)]
+pub struct Settlement {
+    pub seller_item: Holding,
+    pub buyer_item: Holding,
+    pub seller_currency: Holding,
+    pub buyer_currency: Holding,
+}
 
 // The answers by their numbers, as the known results are given.
 #[derive(Drop)]
@@ -26,6 +36,7 @@ pub struct Outcomes {
     pub credit_of_two: u8,
     pub earmark_bytes: [u8; 32],
     pub same_parties: u8,
+    pub settlement: Settlement,
     pub first_mark: [u8; 256],
     pub zeros_are_a_mark: bool,
 }
@@ -76,6 +87,48 @@ fn same_parties() -> u8
     fault_number(ledger.judge(&x))
 }
 
+// Account 1 sells 100 of item 3 to account 2 for 2,000 of currency 4: from the Issue and the Pay in to
+// the Settle.
+fn settle_a_trade() -> Settlement
+    ensures { result ≡ eight_amounts }
+{
+    let mut ledger = Ledger::new(Balances::new(), Balances::new());
+    let issue = Instruction {
+        account: 1,
+        item: 3,
+        quantity: 100,
+        ..Instruction::of_kind(Kind::Issue)
+    };
+    let pay_in = Instruction {
+        account: 2,
+        currency: 4,
+        amount: 5000,
+        ..Instruction::of_kind(Kind::PayIn)
+    };
+    let enter = Instruction {
+        account: 1,
+        counterparty: 2,
+        item: 3,
+        currency: 4,
+        trade: 7,
+        quantity: 100,
+        amount: 2000,
+        ..Instruction::of_kind(Kind::Enter)
+    };
+    let _ = ledger.instruct(&issue);
+    let _ = ledger.instruct(&pay_in);
+    let _ = ledger.instruct(&enter);
+    let _ = ledger.instruct(&Instruction::on_trade(Kind::Earmark, 7));
+    let _ = ledger.instruct(&Instruction::on_trade(Kind::Fund, 7));
+    let _ = ledger.instruct(&Instruction::on_trade(Kind::Settle, 7));
+    Settlement {
+        seller_item: ledger.securities(1, 3).unwrap_or_default(),
+        buyer_item: ledger.securities(2, 3).unwrap_or_default(),
+        seller_currency: ledger.money(1, 4).unwrap_or_default(),
+        buyer_currency: ledger.money(2, 4).unwrap_or_default(),
+    }
+}
+
 // Makes each trial that a fresh book, ledger, instruction or mark can show, and stands for the theorem of all of them.
 pub fn marked_trials() -> Outcomes
     ensures outcomes { result ≡ expected }
@@ -90,6 +143,7 @@ pub fn marked_trials() -> Outcomes
         credit_of_two: credit_of(2),
         earmark_bytes: earmark_bytes(),
         same_parties: same_parties(),
+        settlement: settle_a_trade(),
         first_mark: mark_block(0),
         zeros_are_a_mark: is_good_mark(&[0; 256], 0),
     }

@@ -1,6 +1,6 @@
-use Rattle.std.proofs.Common.{◌≡◌, [], ◌∷◌, get_or, ap, ◌∙◌, rules}
-use Rattle.instruction.specs.Layout.{bytes_of, instruction_in, Fit}
-use Rattle.instruction.proofs.Trips.{there}
+use Rattle.std.proofs.Common.{◌≡◌, [], ◌∷◌, get_or, sym, ap, ◌∙◌, subst, rules}
+use Rattle.instruction.specs.Layout.{bytes_of, instruction_in, LaidOut, Fit}
+use Rattle.instruction.proofs.Trips.{there, laid-out}
 use Rattle.instruction.proofs.Instruction.to_bytes.Goals as goal
 
 pub returns : goal.returns
@@ -17,4 +17,4 @@ returns c =
     ∷ get_or (u k) 0 0 ∷ get_or (u k) 1 0 ∷ 0 ∷ 0 ∷ get_or (t k) 0 0 ∷ get_or (t k) 1 0 ∷ get_or (t k) 2 0 ∷ get_or (t k) 3 0
     ∷ get_or (q k) 0 0 ∷ get_or (q k) 1 0 ∷ get_or (q k) 2 0 ∷ get_or (q k) 3 0 ∷ get_or (q k) 4 0 ∷ get_or (q k) 5 0 ∷ get_or (q k) 6 0 ∷ get_or (q k) 7 0
     ∷ get_or (m k) 0 0 ∷ get_or (m k) 1 0 ∷ get_or (m k) 2 0 ∷ get_or (m k) 3 0 ∷ get_or (m k) 4 0 ∷ get_or (m k) 5 0 ∷ get_or (m k) 6 0 ∷ get_or (m k) 7 0 ∷ [] in
-    record { value = e; read_back = ap instruction_in e ∙ there c.args.self f }
+    record { value = e; laid_out = subst (λ bs. LaidOut bs c.args.self) (sym e) (laid-out c.args.self); read_back = ap instruction_in e ∙ there c.args.self f }

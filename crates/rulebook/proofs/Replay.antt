@@ -1,0 +1,37 @@
+-- A list of instructions read from left to right, and its sums by the rules' own words. Assumes nothing.
+use Rattle.std.proofs.Common.{ℕ, List, fold}
+use Rattle.instruction.specs.declared.Instruction.{Instruction}
+use Rattle.instruction.specs.Kinds.{kind_at}
+use Rattle.book.specs.Sums.{up_to, only, here}
+use Rattle.rulebook.specs.declared.State.{State}
+use Rattle.rulebook.specs.declared.State.TheVariants.{Unentered}
+use Rattle.rulebook.specs.declared.Terms.{Terms}
+use Rattle.rulebook.specs.Table.{after}
+use Rattle.rulebook.specs.Terms.{no_terms, Side, giver, taker, asset, volume}
+use Rattle.rulebook.specs.Rules.{turned, is_enter, terms_after, holds, is_settled}
+
+abbrev pub read_state : (ℕ → State) → Instruction → ℕ → State
+read_state f x = turned (after (kind_at x.kind)) f x.trade
+
+abbrev pub state_in : List Instruction → ℕ → State
+state_in xs = fold read_state (λ t. Unentered) xs
+
+abbrev pub read_terms : (ℕ → Terms) → Instruction → ℕ → Terms
+read_terms f x = terms_after (is_enter (kind_at x.kind)) f x
+
+abbrev pub terms_in : List Instruction → ℕ → Terms
+terms_in xs = fold read_terms (λ t. no_terms) xs
+
+-- what a trade in a state, on terms, counts for the account a and the item i
+abbrev pub give_of : Side → ℕ → ℕ → State → Terms → ℕ
+give_of d a i s m = only (is_settled s) (only (here (giver d m) (asset d m) a i) (volume d m))
+
+abbrev pub take_of : Side → ℕ → ℕ → State → Terms → ℕ
+take_of d a i s m = only (is_settled s) (only (here (taker d m) (asset d m) a i) (volume d m))
+
+abbrev pub hold_of : Side → ℕ → ℕ → State → Terms → ℕ
+hold_of d a i s m = only (holds d s) (only (here (giver d m) (asset d m) a i) (volume d m))
+
+-- over all trades
+abbrev pub over : (State → Terms → ℕ) → (ℕ → State) → (ℕ → Terms) → ℕ
+over c st tm = up_to 128 (λ t. c (st t) (tm t))
