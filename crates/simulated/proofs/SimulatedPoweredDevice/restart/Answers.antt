@@ -24,11 +24,8 @@ returns c =
     let rem = c.args.remains.now in
     let s = subst (λ (n : ℕ). EachRow 514 (restarted xs rem) n xs ys) d.sized c.restart_all.ensures.image in
     record {
-      call = record {
-        size = same-blocks 514 xs ys s.len;
-        holds = restart-holds xs ys rem s;
-        loose = restart-firm xs ys rem s;
-        left = search rules;
-      };
+      blocks = (same-blocks 514 xs ys s.len, restart-holds xs ys rem s);
+      loose_set = restart-firm xs ys rem s;
+      calls_left = search rules;
       kind = record { image = s; left = search rules };
     }
