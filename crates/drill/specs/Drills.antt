@@ -59,8 +59,12 @@ pub record SecondRefused (m m' : Medium) (kept loose : ℕ) (bytes : List ℕ) (
 -- What a refusal leaves, by the call that was refused.
 pub record LeftBehind (m m' : Medium) (kept loose : ℕ) (bytes : List ℕ) : Type 0 where
   pub first : (e : Fault) → write_answer m kept (length bytes) ≡ Err e → FirstRefused m m' kept e
-  pub sync : (e : Fault) → write_answer m kept (length bytes) ≡ Ok tt → spend_answer (m.left - 1) ≡ Err e → SyncRefused m m' kept bytes
-  pub second : (e : Fault) → keep_answer m kept (length bytes) ≡ Ok tt → loose_answer m loose (length bytes) ≡ Err e → SecondRefused m m' kept loose bytes e
+  pub sync :
+      (e : Fault) → write_answer m kept (length bytes) ≡ Ok tt → spend_answer (m.left - 1) ≡ Err e
+      → SyncRefused m m' kept bytes
+  pub second :
+      (e : Fault) → keep_answer m kept (length bytes) ≡ Ok tt → loose_answer m loose (length bytes) ≡ Err e
+      → SecondRefused m m' kept loose bytes e
 
 -- All three were accepted: both blocks hold the bytes, and none but the second may be loose.
 pub record BothWritten (m m' : Medium) (kept loose : ℕ) (bytes : List ℕ) : Type 0 where
@@ -103,7 +107,8 @@ drill_answer m kept loose n calls room held =
 -- the calls that are left then
 abbrev pub drill_left : Medium → ℕ → ℕ → ℕ → ℕ → ℕ → ℕ
 drill_left m kept loose n calls room =
-    if_ok (arm_answer m kept loose n) (if_ok (admitted m.size calls kept room) (calls - 1) calls) (arm_left m kept loose n)
+    if_ok (arm_answer m kept loose n) (if_ok (admitted m.size calls kept room) (calls - 1) calls)
+    (arm_left m kept loose n)
 
 -- What a drill answers and leaves, also where both blocks are the same.
 pub record Drilled (m m' : Medium) (kept loose : ℕ) (bytes : List ℕ) (given : ℕ) (old new : List ℕ) (r : Answer) : Type 0 where

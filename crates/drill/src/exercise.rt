@@ -31,8 +31,11 @@ pub struct Ends {
 
 // Writes and syncs one block, and writes another and does not sync it.
 fn arm<D: Device>(device: &mut D, writes: &Writes<'_>) -> Result<(), Fault>
-    ensures armed { Armed (D.Device.medium device.old) (D.Device.medium device.new) writes.now.kept writes.now.loose writes.now.bytes.now result }
-    ensures calls { Traced D.Device.makes (armed_calls (D.Device.medium device.old) writes.now.kept writes.now.loose writes.now.bytes.now []) device.old device.new }
+    ensures armed { let w = writes.now in
+        Armed (D.Device.medium device.old) (D.Device.medium device.new) w.kept w.loose w.bytes.now result }
+    ensures calls { let w = writes.now in
+        Traced D.Device.makes (armed_calls (D.Device.medium device.old) w.kept w.loose w.bytes.now [])
+        device.old device.new }
 {
     device.write(writes.kept, writes.bytes)?;
     device.sync()?;
@@ -46,8 +49,11 @@ fn cut_and_read<P: PoweredDevice>(
     cut: &Cut<'_>,
     back: &mut [u8],
 ) -> Result<(), Fault>
-    ensures read { ReadBack (P.Device.medium device.old) (P.Device.medium device.new) writes.now.kept (min cut.now.calls P.PoweredDevice.most) back.old back.new result }
-    ensures calls { Traced P.Device.makes (restarting cut.now.calls cut.now.remains.now ∷ reading writes.now.kept (length back.old) ∷ []) device.old device.new }
+    ensures read { ReadBack (P.Device.medium device.old) (P.Device.medium device.new) writes.now.kept
+        (min cut.now.calls P.PoweredDevice.most) back.old back.new result }
+    ensures calls { Traced P.Device.makes
+        (restarting cut.now.calls cut.now.remains.now ∷ reading writes.now.kept (length back.old) ∷ [])
+        device.old device.new }
 {
     device.restart(cut.calls, cut.remains);
     device.read(writes.kept, back)
@@ -60,11 +66,15 @@ pub fn drill<P: PoweredDevice>(
     cut: &Cut<'_>,
     back: &mut [u8],
 ) -> Result<(), Fault>
-    ensures drilled { Drilled (P.Device.medium device.old) (P.Device.medium device.new) writes.now.kept writes.now.loose writes.now.bytes.now (min cut.now.calls P.PoweredDevice.most) back.old back.new result }
+    ensures drilled { let w = writes.now in
+        Drilled (P.Device.medium device.old) (P.Device.medium device.new) w.kept w.loose w.bytes.now
+        (min cut.now.calls P.PoweredDevice.most) back.old back.new result }
 
     // the calls that were made, of which the device's kind may say more than every device promises
-    ensures calls { let rest = restarting cut.now.calls cut.now.remains.now ∷ reading writes.now.kept (length back.old) ∷ [] in
-        Traced P.Device.makes (armed_calls (P.Device.medium device.old) writes.now.kept writes.now.loose writes.now.bytes.now rest) device.old device.new }
+    ensures calls { let w = writes.now in let c = cut.now in
+        let rest = restarting c.calls c.remains.now ∷ reading w.kept (length back.old) ∷ [] in
+        Traced P.Device.makes (armed_calls (P.Device.medium device.old) w.kept w.loose w.bytes.now rest)
+        device.old device.new }
 {
     arm(device, writes)?;
     cut_and_read(device, writes, cut, back)

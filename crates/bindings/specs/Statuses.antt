@@ -1,0 +1,30 @@
+-- The status of a call of the library: whether the work was done, and what of it is left if it was not. Assumes nothing.
+use Rattle.std.specs.Prelude.{◌≡◌, ℕ, ◌<◌, ◌≤◌, Bool, false, ◌||◌, ◌&&◌, ◌⊎◌, ◌↔◌, ◌≢◌, List, length, Ok, Err, Result, ◌==◌}
+use Rattle.bindings.specs.declared.rows.Setup.{Setup}
+use Rattle.bindings.specs.declared.rows.Answer.{Answer}
+use Rattle.bindings.specs.declared.work.Status.{Status}
+use Rattle.bindings.specs.declared.work.Status.TheVariants.{NoMemory, Unlisted, OtherLength}
+
+abbrev pub status_number : Status → ℕ
+status_number NoMemory = 1
+status_number Unlisted = 2
+status_number OtherLength = 3
+
+-- 0 where the work was done
+abbrev pub status_of : Result ℕ Status → ℕ
+status_of (Ok n) = 0
+status_of (Err s) = status_number s
+
+-- the kinds that the library has: a simulated device or a battery-backed one, and balances or lots for each book
+abbrev pub is_listed : Setup → Bool
+is_listed s = (s.device == 0 || s.device == 1) && ((s.register == 1 || s.register == 2) && (s.cash == 1 || s.cash == 2))
+
+-- What was lent, before and after a call with a status, where the kinds are listed or not.
+pub record Carried (listed : Bool) (image image' bytes bytes' : List ℕ) (answers answers' : List Answer) (status : ℕ) : Type 0 where
+  pub known : status ≤ 3
+  pub unlisted : (status ≡ 2) ↔ (listed ≡ false)
+  -- memory is wanted for a copy of the image alone
+  pub memory : status ≡ 1 → 0 < length image
+  pub image_kept : (status ≢ 0) → image' ≡ image
+  pub bytes_kept : (status ≡ 1) ⊎ (status ≡ 2) → bytes' ≡ bytes
+  pub answers_kept : (status ≡ 1) ⊎ (status ≡ 2) → answers' ≡ answers
