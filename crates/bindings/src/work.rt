@@ -1,6 +1,6 @@
 // A device is made of an image, the work is done on it and on two fresh books, and the image goes back.
-ghost use Rattle.std.specs.Prelude.{◌≡◌, ◌&&◌, ◌||◌, ◌==◌, true, IfErr, OnErr};
-ghost use Rattle.bindings.specs.Statuses.{status_number, status_of, is_listed, Carried};
+ghost use Rattle.std.specs.Prelude.{◌≡◌, true};
+ghost use Rattle.bindings.specs.Statuses.{status_number, status_of, are_books, is_listed, Carried};
 
 use crate::kinds::{BookKind, DeviceKind};
 use crate::machine::Machine;
@@ -74,7 +74,8 @@ fn on_image<D: DeviceKind, R: BookKind, C: BookKind>(
     answers: &mut [Answer],
     heap: Global,
 ) -> Result<u64, Status>
-    ensures { Carried true image.old image.new «data».old «data».new answers.old answers.new (status_of result) }
+    ensures { Carried true image.old image.new «data».old «data».new answers.old answers.new
+        (status_of result) }
 {
     let mut copy = Vec::new(heap);
     copy.extend_from_slice(image)?;
@@ -96,8 +97,7 @@ fn on_device<D: DeviceKind>(
     answers: &mut [Answer],
     heap: Global,
 ) -> Result<u64, Status>
-    ensures { Carried
-        ((setup.now.register == 1 || setup.now.register == 2) && (setup.now.cash == 1 || setup.now.cash == 2))
+    ensures { Carried (are_books setup.now.register setup.now.cash)
         image.old image.new «data».old «data».new answers.old answers.new (status_of result) }
 {
     match (setup.register, setup.cash) {
@@ -117,7 +117,8 @@ pub(crate) fn carry_out(
     answers: &mut [Answer],
     heap: Global,
 ) -> Result<u64, Status>
-    ensures { Carried (is_listed setup.now) image.old image.new «data».old «data».new answers.old answers.new (status_of result) }
+    ensures { Carried (is_listed setup.now)
+        image.old image.new «data».old «data».new answers.old answers.new (status_of result) }
 {
     match setup.device {
         0 => on_device::<Simulated>(setup, image, work, data, answers, heap),

@@ -43,16 +43,18 @@ pub trait Device {
     ghost bounds: { (d : Self) → Bounded (medium d) };
 }
 
-// A device that can lose its power and be restarted. Its kind fixes the largest number of calls that a restart gives.
+// A device that can lose its power and be restarted. Its kind fixes the largest number of calls that a
+// restart gives.
 pub trait PoweredDevice: Device {
     ghost most: { ℕ };
 
-    // Restarts the device, and never refuses. The bytes of `remains` matter to loose blocks alone: what a loose block holds
-    // afterwards is for the kind to say, by `makes`, and may be its old bytes, its new ones, any other bytes, or nothing
-    // that can be read.
+    // Restarts the device, and never refuses. The bytes of `remains` matter to loose blocks alone: what
+    // a loose block holds afterwards is for the kind to say, by `makes`, and may be its old bytes, its
+    // new ones, any other bytes, or nothing that can be read.
     fn restart(&mut self, calls: u32, remains: &[u8])
         // as many blocks as before, and each that was not loose holds what it held
-        ensures blocks { let m = Self.Device.medium self.old in let m' = Self.Device.medium self.new in
+        ensures blocks { let m = Self.Device.medium self.old in
+            let m' = Self.Device.medium self.new in
             (m'.size ≡ m.size) × ((k : ℕ) → m.loose k ≡ false → m'.holds k ≡ m.holds k) }
 
         // no block is loose

@@ -23,7 +23,8 @@ arm_answer m kept loose n = and_then (keep_answer m kept n) (loose_answer m loos
 abbrev pub arm_left : Medium → ℕ → ℕ → ℕ → ℕ
 arm_left m kept loose n =
     if_ok (write_answer m kept n)
-    (if_ok (spend_answer (m.left - 1)) (if_ok (loose_answer m loose n) (m.left - 3) (m.left - 2)) (m.left - 1))
+    (if_ok (spend_answer (m.left - 1))
+    (if_ok (loose_answer m loose n) (m.left - 3) (m.left - 2)) (m.left - 1))
     m.left
 
 -- the calls that are made: those three up to the first that refuses, and the rest where none does
@@ -36,25 +37,28 @@ armed_calls m kept loose bytes rest =
     (writing loose bytes ∷ if_ok (loose_answer m loose (length bytes)) rest []) [])
     []
 
--- The first write was refused with the fault e: nothing changed, but that for want of calls its own block may.
+-- The first write was refused with the fault e: nothing changed, but that for want of calls its own
+-- block may.
 pub record FirstRefused (m m' : Medium) (kept : ℕ) (e : Fault) : Type 0 where
   pub others : Elsewhere m m' kept
   pub same : (number_of e.refusal ≢ 13) → SameBlocks m m'
 
--- The first write was accepted and the sync refused: the block holds the bytes, and the others are as they were, but that
--- some of them may be loose no more.
+-- The first write was accepted and the sync refused: the block holds the bytes, and the others are as
+-- they were, but that fewer of them may be loose.
 pub record SyncRefused (m m' : Medium) (kept : ℕ) (bytes : List ℕ) : Type 0 where
   pub written : m'.holds kept ≡ Some bytes
   pub others : (k : ℕ) → (k ≢ kept) → m'.holds k ≡ m.holds k
   pub loose : (k : ℕ) → (k ≢ kept) → m'.loose k ≡ true → m.loose k ≡ true
 
--- The second write was refused with the fault e: the first block holds the bytes and none is loose, but that for want of
--- calls the second write's block may be, and may hold anything.
-pub record SecondRefused (m m' : Medium) (kept loose : ℕ) (bytes : List ℕ) (e : Fault) : Type 0 where
+-- The second write was refused with the fault e: the first block holds the bytes and none is loose, but
+-- that for want of calls the second write's block may be, and may hold anything.
+pub record SecondRefused (m m' : Medium) (kept loose : ℕ) (bytes : List ℕ) (e : Fault)
+    : Type 0 where
   pub first : (kept ≢ loose) → m'.holds kept ≡ Some bytes
   pub others : (k : ℕ) → (k ≢ kept) → (k ≢ loose) → m'.holds k ≡ m.holds k
   pub firm : (k : ℕ) → (k ≢ loose) → m'.loose k ≡ false
-  pub same : (number_of e.refusal ≢ 13) → (m'.holds loose ≡ m.holds loose) × (m'.loose loose ≡ false)
+  pub held : (number_of e.refusal ≢ 13) → m'.holds loose ≡ m.holds loose
+  pub synced : (number_of e.refusal ≢ 13) → m'.loose loose ≡ false
 
 -- What a refusal leaves, by the call that was refused.
 pub record LeftBehind (m m' : Medium) (kept loose : ℕ) (bytes : List ℕ) : Type 0 where
@@ -63,8 +67,8 @@ pub record LeftBehind (m m' : Medium) (kept loose : ℕ) (bytes : List ℕ) : Ty
       (e : Fault) → write_answer m kept (length bytes) ≡ Ok tt → spend_answer (m.left - 1) ≡ Err e
       → SyncRefused m m' kept bytes
   pub second :
-      (e : Fault) → keep_answer m kept (length bytes) ≡ Ok tt → loose_answer m loose (length bytes) ≡ Err e
-      → SecondRefused m m' kept loose bytes e
+      (e : Fault) → keep_answer m kept (length bytes) ≡ Ok tt
+      → loose_answer m loose (length bytes) ≡ Err e → SecondRefused m m' kept loose bytes e
 
 -- All three were accepted: both blocks hold the bytes, and none but the second may be loose.
 pub record BothWritten (m m' : Medium) (kept loose : ℕ) (bytes : List ℕ) : Type 0 where
@@ -81,9 +85,9 @@ pub record Armed (m m' : Medium) (kept loose : ℕ) (bytes : List ℕ) (r : Answ
   pub refused : LeftBehind m m' kept loose bytes
   pub both : arm_answer m kept loose (length bytes) ≡ Ok tt → BothWritten m m' kept loose bytes
 
--- The power was cut, and a block read with the calls that the restart gave: what the read answers and leaves in the buffer is
--- by what the block holds in the end, since a read changes no block.
-pub record ReadBack (m m' : Medium) (b : ℕ) (given : ℕ) (old new : List ℕ) (r : Answer) : Type 0 where
+-- The power was cut, and a block read with the calls that the restart gave. What the read answers and
+-- leaves in the buffer goes by what the block holds in the end, since a read changes no block.
+pub record ReadBack (m m' : Medium) (b given : ℕ) (old new : List ℕ) (r : Answer) : Type 0 where
   pub answer : r ≡ and_then (admitted m.size given b (length old)) (found b (m'.holds b))
   pub buffer : new ≡ if_ok r (filled (m'.holds b) old) old
   pub left : m'.left ≡ if_ok (admitted m.size given b (length old)) (given - 1) given
@@ -91,18 +95,20 @@ pub record ReadBack (m m' : Medium) (b : ℕ) (given : ℕ) (old new : List ℕ)
   pub holds : (k : ℕ) → m.loose k ≡ false → m'.holds k ≡ m.holds k
   pub firm : (k : ℕ) → m'.loose k ≡ false
 
--- All three were accepted, and then the power was cut: what was synced is there, whatever the remains were, and no block is
--- loose. What the second write left is for the kind to say, also where it was made to the first block.
+-- All three were accepted, and then the power was cut: what was synced is there, whatever the remains
+-- were, and no block is loose. What the second write left is for the kind to say, also where it was
+-- made to the first block.
 pub record Outlasted (m m' : Medium) (kept loose : ℕ) (bytes : List ℕ) : Type 0 where
   pub first : (kept ≢ loose) → m'.holds kept ≡ Some bytes
   pub others : (k : ℕ) → (k ≢ kept) → (k ≢ loose) → m'.holds k ≡ m.holds k
   pub firm : (k : ℕ) → m'.loose k ≡ false
 
--- The answer to a drill of a device that holds that in the first block in the end: the same three calls, a restart that
+-- The answer to a drill after which the first block holds that: the same three calls, a restart that
 -- gives a number of calls, and a read.
 abbrev pub drill_answer : Medium → ℕ → ℕ → ℕ → ℕ → ℕ → Option (List ℕ) → Answer
 drill_answer m kept loose n calls room held =
-    and_then (arm_answer m kept loose n) (and_then (admitted m.size calls kept room) (found kept held))
+    and_then (arm_answer m kept loose n)
+    (and_then (admitted m.size calls kept room) (found kept held))
 
 -- the calls that are left then
 abbrev pub drill_left : Medium → ℕ → ℕ → ℕ → ℕ → ℕ → ℕ
@@ -111,7 +117,8 @@ drill_left m kept loose n calls room =
     (arm_left m kept loose n)
 
 -- What a drill answers and leaves, also where both blocks are the same.
-pub record Drilled (m m' : Medium) (kept loose : ℕ) (bytes : List ℕ) (given : ℕ) (old new : List ℕ) (r : Answer) : Type 0 where
+pub record Drilled (m m' : Medium) (kept loose : ℕ) (bytes : List ℕ) (given : ℕ) (old new : List ℕ)
+    (r : Answer) : Type 0 where
   pub answer : r ≡ drill_answer m kept loose (length bytes) given (length old) (m'.holds kept)
   -- a refusal leaves the buffer
   pub buffer : new ≡ if_ok r (filled (m'.holds kept) old) old

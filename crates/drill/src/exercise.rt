@@ -32,9 +32,11 @@ pub struct Ends {
 // Writes and syncs one block, and writes another and does not sync it.
 fn arm<D: Device>(device: &mut D, writes: &Writes<'_>) -> Result<(), Fault>
     ensures armed { let w = writes.now in
-        Armed (D.Device.medium device.old) (D.Device.medium device.new) w.kept w.loose w.bytes.now result }
+        Armed (D.Device.medium device.old) (D.Device.medium device.new)
+        w.kept w.loose w.bytes.now result }
     ensures calls { let w = writes.now in
-        Traced D.Device.makes (armed_calls (D.Device.medium device.old) w.kept w.loose w.bytes.now [])
+        Traced D.Device.makes
+        (armed_calls (D.Device.medium device.old) w.kept w.loose w.bytes.now [])
         device.old device.new }
 {
     device.write(writes.kept, writes.bytes)?;
@@ -49,10 +51,12 @@ fn cut_and_read<P: PoweredDevice>(
     cut: &Cut<'_>,
     back: &mut [u8],
 ) -> Result<(), Fault>
-    ensures read { ReadBack (P.Device.medium device.old) (P.Device.medium device.new) writes.now.kept
-        (min cut.now.calls P.PoweredDevice.most) back.old back.new result }
-    ensures calls { Traced P.Device.makes
-        (restarting cut.now.calls cut.now.remains.now ∷ reading writes.now.kept (length back.old) ∷ [])
+    ensures read { ReadBack (P.Device.medium device.old) (P.Device.medium device.new)
+        writes.now.kept (min cut.now.calls P.PoweredDevice.most) back.old back.new result }
+    ensures calls { let c = cut.now in
+        let block = writes.now.kept in
+        Traced P.Device.makes
+        (restarting c.calls c.remains.now ∷ reading block (length back.old) ∷ [])
         device.old device.new }
 {
     device.restart(cut.calls, cut.remains);
@@ -67,13 +71,15 @@ pub fn drill<P: PoweredDevice>(
     back: &mut [u8],
 ) -> Result<(), Fault>
     ensures drilled { let w = writes.now in
-        Drilled (P.Device.medium device.old) (P.Device.medium device.new) w.kept w.loose w.bytes.now
-        (min cut.now.calls P.PoweredDevice.most) back.old back.new result }
+        Drilled (P.Device.medium device.old) (P.Device.medium device.new)
+        w.kept w.loose w.bytes.now (min cut.now.calls P.PoweredDevice.most) back.old back.new result }
 
     // the calls that were made, of which the device's kind may say more than every device promises
-    ensures calls { let w = writes.now in let c = cut.now in
+    ensures calls { let w = writes.now in
+        let c = cut.now in
         let rest = restarting c.calls c.remains.now ∷ reading w.kept (length back.old) ∷ [] in
-        Traced P.Device.makes (armed_calls (P.Device.medium device.old) w.kept w.loose w.bytes.now rest)
+        Traced P.Device.makes
+        (armed_calls (P.Device.medium device.old) w.kept w.loose w.bytes.now rest)
         device.old device.new }
 {
     arm(device, writes)?;

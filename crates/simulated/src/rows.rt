@@ -133,7 +133,7 @@ fn take_byte(remains: &mut Iter<'_, u8>) -> u8
     remains.next().copied().unwrap_or(0)
 }
 
-// Restarts a row, which is all of the slice as above: a loose one takes the next byte of the remains.
+// Restarts a row, which is all of the slice as above. A loose one takes the next byte of the remains.
 pub(crate) fn restart_row(row: &mut [u8], remains: &mut Iter<'_, u8>)
     requires { length row.old ≡ 514 }
     ensures row { row.new ≡ (if is_loose row.old then revived (slice_index (iter_rest remains.old) 0) row.old else row.old) }

@@ -33,7 +33,9 @@ pub(crate) fn sync_all(rows: &mut Imaged<ROW>)
 
 // Syncs the row of a block. A number that no block has is passed over.
 fn sync_named(rows: &mut Imaged<ROW>, block: u32)
-    ensures image { let xs = rows.old.image.items in rows.new.image.items ≡ (if nat_lt block rows.old.size then put 514 xs block (synced 0 (row 514 xs block)) else xs) }
+    ensures image { let xs = rows.old.image.items in
+        let r = synced 0 (row 514 xs block) in
+        rows.new.image.items ≡ (if nat_lt block rows.old.size then put 514 xs block r else xs) }
     ensures size { rows.new.size ≡ rows.old.size }
     ensures left { rows.new.left ≡ rows.old.left }
 {
