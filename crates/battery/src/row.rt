@@ -22,6 +22,7 @@ impl Layout<ROW> for Kept {
         held_bytes(row)
     }
 
+    #[tactic(auto, using(crate::proofs::Stored::stored))]
     fn store(row: &mut [u8; ROW], bytes: &[u8; BLOCK]) {
         row[0] = 0;
         row[1..].copy_from_slice(bytes);

@@ -1,4 +1,7 @@
 // The kinds of device and of book that a caller may ask for.
+ghost use Rattle.std.specs.Prelude.{◌≡◌, ℕ, List};
+ghost use Rattle.book.specs.Holdings.{nothing};
+
 use balances::Balances;
 use battery::Battery;
 use book::Book;
@@ -7,12 +10,22 @@ use lots::Lots;
 use simulated::Simulated;
 
 pub(crate) trait DeviceKind: PoweredDevice {
-    fn of_image(image: Vec<u8>, calls: u32) -> Self;
+    // the bytes of the image that a device is made from
+    ghost image_of: { Self → List ℕ };
 
-    fn image(self) -> Vec<u8>;
+    fn of_image(image: Vec<u8>, calls: u32) -> Self
+        ensures image { image_of result ≡ image.items }
+        ensures left { (Self.Device.medium result).left ≡ calls };
+
+    fn image(self) -> Vec<u8>
+        ensures { result.items ≡ image_of self };
 }
 
 impl DeviceKind for Simulated {
+    ghost use Rattle.simulated.specs.Meaning.{image_of};
+
+    ghost image_of = { image_of };
+
     fn of_image(image: Vec<u8>, calls: u32) -> Simulated {
         Simulated::new(image, calls)
     }
@@ -23,6 +36,10 @@ impl DeviceKind for Simulated {
 }
 
 impl DeviceKind for Battery {
+    ghost use Rattle.battery.specs.Meaning.{image_of};
+
+    ghost image_of = { image_of };
+
     fn of_image(image: Vec<u8>, calls: u32) -> Battery {
         Battery::new(image, calls)
     }
@@ -33,7 +50,9 @@ impl DeviceKind for Battery {
 }
 
 pub(crate) trait BookKind: Book + Drop {
-    fn fresh() -> Self;
+    // A book in which no account has anything.
+    fn fresh() -> Self
+        ensures { Self.Book.holdings result ≡ nothing };
 }
 
 impl BookKind for Balances {

@@ -2,6 +2,9 @@
 // whole lists of calls, so that devices and books never leave it: what crosses is rows of numbers, and the bytes of an image.
 #![tactic(auto)]
 
+ghost use Rattle.std.specs.Prelude.{◌≡◌, ◌<◌, ◌≤◌, ◌≢◌, ◌⊎◌, ◌↔◌, false, length};
+ghost use Rattle.bindings.specs.Statuses.{is_listed};
+
 mod devices;
 mod engines;
 mod kinds;
@@ -13,7 +16,7 @@ mod work;
 use rows::{Answer, Call, Setup};
 use std::alloc::Global;
 use timing::Trial;
-use work::{Status, Work};
+use work::{Work, carry_out};
 
 // Carries out calls, one after another, and answers each in the row of its place. The calls read from `data` and write to it.
 // The image is left as the device is at the end.
@@ -25,13 +28,22 @@ pub extern "C" fn bindings_run(
     data: &mut [u8],
     calls: &[Call],
     answers: &mut [Answer],
-) -> u8 {
-    let work = Work::Calls {
-        calls,
-        data,
-        answers,
-    };
-    match work::carry_out(heap, setup, image, work) {
+) -> u8
+    // 0 where the work was done, or 1 to 3
+    ensures status { result ≤ 3 }
+
+    // 2 exactly where there is no such kind of device or of book
+    ensures unlisted { (result ≡ 2) ↔ (is_listed setup.now ≡ false) }
+
+    // 1, want of memory, only where the image has a byte
+    ensures memory { result ≡ 1 → 0 < length image.old }
+    ensures image { (result ≢ 0) → image.new ≡ image.old }
+
+    // nothing was called where the kinds are not listed, or memory was wanted
+    ensures bytes { (result ≡ 1) ⊎ (result ≡ 2) → «data».new ≡ «data».old }
+    ensures answers { (result ≡ 1) ⊎ (result ≡ 2) → answers.new ≡ answers.old }
+{
+    match carry_out(setup, image, Work::Calls(calls), data, answers, heap) {
         Ok(_) => 0,
         Err(status) => status.number(),
     }
@@ -46,8 +58,15 @@ pub extern "C" fn bindings_time(
     image: &mut [u8],
     trial: &Trial,
     told: &mut u64,
-) -> u8 {
-    match work::carry_out(heap, setup, image, Work::Trial(trial)) {
+) -> u8
+    // the same statuses
+    ensures status { result ≤ 3 }
+    ensures unlisted { (result ≡ 2) ↔ (is_listed setup.now ≡ false) }
+    ensures memory { result ≡ 1 → 0 < length image.old }
+    ensures image { (result ≢ 0) → image.new ≡ image.old }
+    ensures told { (result ≢ 0) → told.new ≡ told.old }
+{
+    match carry_out(setup, image, Work::Trial(trial), &mut [], &mut [], heap) {
         Ok(count) => {
             *told = count;
             0

@@ -1,4 +1,6 @@
 // A device is made of an image, the work is done on it and on two fresh books, and the image goes back.
+ghost use Rattle.std.specs.Prelude.{◌≡◌, true};
+ghost use Rattle.bindings.specs.Statuses.{status_number, status_of, are_books, is_listed, Carried};
 
 use crate::kinds::{BookKind, DeviceKind};
 use crate::machine::Machine;
@@ -10,13 +12,10 @@ use lots::Lots;
 use simulated::Simulated;
 use std::alloc::{AllocError, Global};
 
-#[derive(Drop)]
+// Calls to be carried out, or what is to be timed.
+#[derive(Clone, Copy)]
 pub(crate) enum Work<'a> {
-    Calls {
-        calls: &'a [Call],
-        data: &'a mut [u8],
-        answers: &'a mut [Answer],
-    },
+    Calls(&'a [Call]),
     Trial(&'a Trial),
 }
 
@@ -31,26 +30,33 @@ pub(crate) enum Status {
 }
 
 impl Status {
-    pub(crate) fn number(self) -> u8 {
+    pub(crate) fn number(self) -> u8
+        ensures { result ≡ status_number self }
+    {
         self as u8
     }
 }
 
 impl From<AllocError> for Status {
+    ghost use Rattle.bindings.specs.declared.work.Status.TheVariants.{NoMemory};
+
+    ghost from_gives = { λ error status. status ≡ NoMemory };
+
     fn from(_: AllocError) -> Status {
         Status::NoMemory
     }
 }
 
-fn do_work<D: DeviceKind, R: BookKind, C: BookKind>(device: D, work: Work<'_>) -> (D, u64) {
+fn do_work<D: DeviceKind, R: BookKind, C: BookKind>(
+    device: D,
+    work: Work<'_>,
+    data: &mut [u8],
+    answers: &mut [Answer],
+) -> (D, u64) {
     let parts = (device, R::fresh(), C::fresh());
     let (parts, told) = match work {
         Work::Trial(trial) => time(parts, trial),
-        Work::Calls {
-            calls,
-            data,
-            answers,
-        } => {
+        Work::Calls(calls) => {
             let (device, register, cash) = parts;
             let machine = Machine::new(device, register, cash);
             (machine.run(calls, data, answers).finish(), 0)
@@ -61,13 +67,20 @@ fn do_work<D: DeviceKind, R: BookKind, C: BookKind>(device: D, work: Work<'_>) -
 }
 
 fn on_image<D: DeviceKind, R: BookKind, C: BookKind>(
-    heap: Global,
-    calls: u32,
+    setup: &Setup,
     image: &mut [u8],
     work: Work<'_>,
-) -> Result<u64, Status> {
-    let device = D::of_image(Vec::from_slice(heap, image)?, calls);
-    let (device, told) = do_work::<D, R, C>(device, work);
+    data: &mut [u8],
+    answers: &mut [Answer],
+    heap: Global,
+) -> Result<u64, Status>
+    ensures { Carried true image.old image.new «data».old «data».new answers.old answers.new
+        (status_of result) }
+{
+    let mut copy = Vec::new(heap);
+    copy.extend_from_slice(image)?;
+    let device = D::of_image(copy, setup.calls);
+    let (device, told) = do_work::<D, R, C>(device, work, data, answers);
     let after = device.image();
     if after.len() != image.len() {
         return Err(Status::OtherLength);
@@ -77,30 +90,39 @@ fn on_image<D: DeviceKind, R: BookKind, C: BookKind>(
 }
 
 fn on_device<D: DeviceKind>(
-    heap: Global,
     setup: &Setup,
     image: &mut [u8],
     work: Work<'_>,
-) -> Result<u64, Status> {
-    let calls = setup.calls;
+    data: &mut [u8],
+    answers: &mut [Answer],
+    heap: Global,
+) -> Result<u64, Status>
+    ensures { Carried (are_books setup.now.register setup.now.cash)
+        image.old image.new «data».old «data».new answers.old answers.new (status_of result) }
+{
     match (setup.register, setup.cash) {
-        (1, 1) => on_image::<D, Balances, Balances>(heap, calls, image, work),
-        (1, 2) => on_image::<D, Balances, Lots>(heap, calls, image, work),
-        (2, 1) => on_image::<D, Lots, Balances>(heap, calls, image, work),
-        (2, 2) => on_image::<D, Lots, Lots>(heap, calls, image, work),
+        (1, 1) => on_image::<D, Balances, Balances>(setup, image, work, data, answers, heap),
+        (1, 2) => on_image::<D, Balances, Lots>(setup, image, work, data, answers, heap),
+        (2, 1) => on_image::<D, Lots, Balances>(setup, image, work, data, answers, heap),
+        (2, 2) => on_image::<D, Lots, Lots>(setup, image, work, data, answers, heap),
         _ => Err(Status::Unlisted),
     }
 }
 
 pub(crate) fn carry_out(
-    heap: Global,
     setup: &Setup,
     image: &mut [u8],
     work: Work<'_>,
-) -> Result<u64, Status> {
+    data: &mut [u8],
+    answers: &mut [Answer],
+    heap: Global,
+) -> Result<u64, Status>
+    ensures { Carried (is_listed setup.now)
+        image.old image.new «data».old «data».new answers.old answers.new (status_of result) }
+{
     match setup.device {
-        0 => on_device::<Simulated>(heap, setup, image, work),
-        1 => on_device::<Battery>(heap, setup, image, work),
+        0 => on_device::<Simulated>(setup, image, work, data, answers, heap),
+        1 => on_device::<Battery>(setup, image, work, data, answers, heap),
         _ => Err(Status::Unlisted),
     }
 }

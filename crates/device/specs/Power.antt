@@ -1,8 +1,9 @@
--- What a restart does: m is the device before it, and m' after it. Assumes nothing.
+-- A restart as one fact: the clauses `blocks`, `loose_set` and `calls_left` of `restart`, where m is the
+-- device before it and m' after it. Assumes nothing.
 use Rattle.std.specs.Prelude.{◌≡◌, ℕ, min, false}
 use Rattle.device.specs.Medium.{Medium}
 
--- Every block that was not loose holds what it held, and of a loose one nothing is known.
+-- What a block holds that was loose is for the kind to say.
 pub record Restart (m m' : Medium) (calls most : ℕ) : Type 0 where
   pub size : m'.size ≡ m.size
   pub holds : (k : ℕ) → m.loose k ≡ false → m'.holds k ≡ m.holds k

@@ -2,10 +2,9 @@
 // proved once. docs/DEVICES.md says it in words.
 #![tactic(auto)]
 
-ghost use Rattle.std.specs.Prelude.{◌≡◌, ℕ, ◌^◌, ◌<◌, length};
+ghost use Rattle.std.specs.Prelude.{◌≡◌, ℕ, ◌^◌, ◌<◌, min, false, length};
 ghost use Rattle.device.specs.Medium.{Medium, Bounded};
 ghost use Rattle.device.specs.Calls.{Read, Write, Sync};
-ghost use Rattle.device.specs.Power.{Restart};
 ghost use Rattle.device.specs.Traces.{DeviceCall, reading, writing, syncing, restarting};
 
 mod imaged;
@@ -44,13 +43,25 @@ pub trait Device {
     ghost bounds: { (d : Self) → Bounded (medium d) };
 }
 
-// A device that can lose its power and be restarted. Its kind fixes the largest number of calls that a restart gives,
-// and says what a restart makes of the loose blocks.
+// A device that can lose its power and be restarted. Its kind fixes the largest number of calls that a
+// restart gives.
 pub trait PoweredDevice: Device {
     ghost most: { ℕ };
 
+    // Restarts the device, and never refuses. The bytes of `remains` matter to loose blocks alone: what
+    // a loose block holds afterwards is for the kind to say, by `makes`, and may be its old bytes, its
+    // new ones, any other bytes, or nothing that can be read.
     fn restart(&mut self, calls: u32, remains: &[u8])
-        ensures call { Restart (Self.Device.medium self.old) (Self.Device.medium self.new) calls most }
+        // as many blocks as before, and each that was not loose holds what it held
+        ensures blocks { let m = Self.Device.medium self.old in
+            let m' = Self.Device.medium self.new in
+            (m'.size ≡ m.size) × ((k : ℕ) → m.loose k ≡ false → m'.holds k ≡ m.holds k) }
+
+        // no block is loose
+        ensures loose_set { (k : ℕ) → (Self.Device.medium self.new).loose k ≡ false }
+
+        // the number asked for, or the kind's largest if that is smaller
+        ensures calls_left { (Self.Device.medium self.new).left ≡ min calls most }
         ensures kind { Self.makes self.old (restarting calls remains.now) self.new };
 
     ghost limit: { most < 2 ^ 32 };

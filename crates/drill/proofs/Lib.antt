@@ -1,2 +1,2 @@
-pub mod Survival
+pub mod Calls
 pub mod Joins

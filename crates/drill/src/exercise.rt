@@ -1,7 +1,8 @@
 // What any powered device must stand, shown from the interface alone.
-ghost use Rattle.std.specs.Prelude.{◌≡◌, ◌-◌, min};
+ghost use Rattle.std.specs.Prelude.{◌≡◌, ◌-◌, min, [], ◌∷◌, length};
 ghost use Rattle.device.specs.Calls.{SameBlocks, if_ok, write_answer};
-ghost use Rattle.drill.specs.Drills.{Armed, Drilled, looked};
+ghost use Rattle.device.specs.Traces.{Traced, reading, restarting};
+ghost use Rattle.drill.specs.Drills.{Armed, Drilled, ReadBack, armed_calls, looked};
 
 use answers::Fault;
 use device::{Device, PoweredDevice};
@@ -30,11 +31,36 @@ pub struct Ends {
 
 // Writes and syncs one block, and writes another and does not sync it.
 fn arm<D: Device>(device: &mut D, writes: &Writes<'_>) -> Result<(), Fault>
-    ensures { Armed (D.Device.medium device.old) (D.Device.medium device.new) writes.now.kept writes.now.loose writes.now.bytes.now result }
+    ensures armed { let w = writes.now in
+        Armed (D.Device.medium device.old) (D.Device.medium device.new)
+        w.kept w.loose w.bytes.now result }
+    ensures calls { let w = writes.now in
+        Traced D.Device.makes
+        (armed_calls (D.Device.medium device.old) w.kept w.loose w.bytes.now [])
+        device.old device.new }
 {
     device.write(writes.kept, writes.bytes)?;
     device.sync()?;
     device.write(writes.loose, writes.bytes)
+}
+
+// Cuts the power, and reads the first block back.
+fn cut_and_read<P: PoweredDevice>(
+    device: &mut P,
+    writes: &Writes<'_>,
+    cut: &Cut<'_>,
+    back: &mut [u8],
+) -> Result<(), Fault>
+    ensures read { ReadBack (P.Device.medium device.old) (P.Device.medium device.new)
+        writes.now.kept (min cut.now.calls P.PoweredDevice.most) back.old back.new result }
+    ensures calls { let c = cut.now in
+        let block = writes.now.kept in
+        Traced P.Device.makes
+        (restarting c.calls c.remains.now ∷ reading block (length back.old) ∷ [])
+        device.old device.new }
+{
+    device.restart(cut.calls, cut.remains);
+    device.read(writes.kept, back)
 }
 
 // Writes and syncs one block, writes another and does not sync it, cuts the power, and reads the first block back.
@@ -44,11 +70,20 @@ pub fn drill<P: PoweredDevice>(
     cut: &Cut<'_>,
     back: &mut [u8],
 ) -> Result<(), Fault>
-    ensures { Drilled (P.Device.medium device.old) (P.Device.medium device.new) writes.now.kept writes.now.loose writes.now.bytes.now (min cut.now.calls P.PoweredDevice.most) back.old back.new result }
+    ensures drilled { let w = writes.now in
+        Drilled (P.Device.medium device.old) (P.Device.medium device.new)
+        w.kept w.loose w.bytes.now (min cut.now.calls P.PoweredDevice.most) back.old back.new result }
+
+    // the calls that were made, of which the device's kind may say more than every device promises
+    ensures calls { let w = writes.now in
+        let c = cut.now in
+        let rest = restarting c.calls c.remains.now ∷ reading w.kept (length back.old) ∷ [] in
+        Traced P.Device.makes
+        (armed_calls (P.Device.medium device.old) w.kept w.loose w.bytes.now rest)
+        device.old device.new }
 {
     arm(device, writes)?;
-    device.restart(cut.calls, cut.remains);
-    device.read(writes.kept, back)
+    cut_and_read(device, writes, cut, back)
 }
 
 // Reads a block, and tells its ends.

@@ -87,6 +87,9 @@ pub(crate) trait Kind: PoweredDevice + Drop {
 
     ghost pictured: { Row → List ℕ };
 
+    // the bytes of the image that a device is made from
+    ghost image_of: { Self → List ℕ };
+
     const NAME: &'static str;
 
     // Adds to an image what it holds of a row.
@@ -94,13 +97,20 @@ pub(crate) trait Kind: PoweredDevice + Drop {
         ensures { is_ok result ≡ true → image.new.items ≡ image.old.items ++ pictured row };
 
     // A device over the image, with no calls.
-    fn of_image(image: Vec<u8>) -> Self;
+    fn of_image(image: Vec<u8>) -> Self
+        ensures image { image_of result ≡ image.items }
+        ensures left { (Self.Device.medium result).left ≡ 0 };
 
-    fn back_to_image(self) -> Vec<u8>;
+    fn back_to_image(self) -> Vec<u8>
+        ensures { result.items ≡ image_of self };
 }
 
 impl Kind for Simulated {
+    ghost use Rattle.simulated.specs.Meaning.{image_of};
+
     ghost pictured = { whole_row };
+
+    ghost image_of = { image_of };
 
     const NAME: &'static str = "simulated";
 
@@ -119,7 +129,11 @@ impl Kind for Simulated {
 }
 
 impl Kind for Battery {
+    ghost use Rattle.battery.specs.Meaning.{image_of};
+
     ghost pictured = { kept_row };
+
+    ghost image_of = { image_of };
 
     const NAME: &'static str = "battery";
 

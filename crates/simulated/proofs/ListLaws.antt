@@ -28,8 +28,8 @@ names-other [] y k away = or_from (eqb y k) false (ne_eqb y k (λ e. away (sym e
 names-other (x ∷ xs) y k away = ap (λ (t : Bool). eqb x k || t) (names-other xs y k away)
 
 -- a block that was not loose, at the end of a list
-pub longer-added : (old new : List ℕ) (loose : Bool) (b : ℕ) → loose ≡ false → new ≡ old ++ (b ∷ []) → Longer old new loose b
-longer-added old new loose b firm e = record {
+pub longer_added : (old new : List ℕ) (loose : Bool) (b : ℕ) → loose ≡ false → new ≡ old ++ (b ∷ []) → Longer old new loose b
+longer_added old new loose b firm e = record {
   kept = λ k h. rw e (names-more old b k h);
   here = rw e (names-last old b);
   short = rw (e, firm) (omega (arith, length_push old b));

@@ -22,8 +22,8 @@ keeping-is r bytes flag full n =
     store-is r bytes 0 256 flag (omega arith) (omega arith) ∙ s ∙ ap (λ (zs : List ℕ). (flag ∷ bytes) ++ zs) d in
     ap (λ (zs : List ℕ). set zs 257 0) one ∙ set_at (flag ∷ bytes) (slice_index r 257) (drop 258 r) 0 257 (omega arith) ∙ ap (λ (zs : List ℕ). flag ∷ (bytes ++ (0 ∷ zs))) (sym t)
 
-pub written-is : (r bytes : List ℕ) → length r ≡ 514 → length bytes ≡ 256 → put_mid 258 256 (slice_set r 257 1) bytes ≡ written r bytes
-written-is r bytes full n =
+pub written_is : (r bytes : List ℕ) → length r ≡ 514 → length bytes ≡ 256 → put_mid 258 256 (slice_set r 257 1) bytes ≡ written r bytes
+written_is r bytes full n =
     let d : drop (257 + length (1 ∷ bytes)) r ≡ [] = drop_all _ r (omega arith) in
     store-is r bytes 257 256 1 (omega arith) (omega arith) ∙ ap (λ (zs : List ℕ). take 257 r ++ ((1 ∷ bytes) ++ zs)) d ∙ ap (λ (zs : List ℕ). take 257 r ++ zs) (append-nil (1 ∷ bytes))
 

@@ -97,6 +97,8 @@ pub next-rest : (s t : Iter ℕ) (r : Option (Bor ℕ)) → iter_steps s r t →
 next-rest s t None h = ap iter_rest h.1 ∙ drop_all 0 (iter_rest s) (omega (arith, h.0)) ∙ sym (drop_all 1 (iter_rest s) (omega (arith, h.0)))
 next-rest s t (Some x) h = sym (ap (drop 1) h)
 
+pub ruleset next_taken = (next-byte, next-rest)
+
 -- what is left of the remains at the next block
 pub taken-more : (xs rem : List ℕ) (b : ℕ) → cond (is_loose (row 514 xs b)) (drop 1 (drop (loose_below xs b) rem)) (drop (loose_below xs b) rem) ≡ drop (loose_below xs (b + 1)) rem
 taken-more xs rem b =

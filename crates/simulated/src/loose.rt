@@ -42,6 +42,7 @@ impl LooseBlocks {
     }
 
     // Notes a block that was written, unless it was loose before and so is noted already.
+    #[tactic(auto, using(crate::proofs::ListLaws::longer_added))]
     pub(crate) fn note(&mut self, loose: bool, block: u32)
         requires { loose ≡ true → NamedIn self.old.list block }
         ensures { Noted self.old.list self.new.list loose block }

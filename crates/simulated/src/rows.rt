@@ -30,6 +30,7 @@ impl Layout<ROW> for Halves {
         }
     }
 
+    #[tactic(auto, using(crate::proofs::RowLaws::written_is))]
     fn store(row: &mut [u8; ROW], bytes: &[u8; BLOCK]) {
         row[257] = 1;
         row[258..].copy_from_slice(bytes);
@@ -123,7 +124,16 @@ fn revive(row: &mut [u8; ROW], byte: u8)
     }
 }
 
-// Restarts a row, which is all of the slice as above: a loose one takes the next byte of the remains, or 0 past their end.
+// The next byte of the remains, or 0 past their end.
+#[tactic(auto, using(crate::proofs::SweepLaws::next_taken))]
+fn take_byte(remains: &mut Iter<'_, u8>) -> u8
+    ensures byte { result ≡ slice_index (iter_rest remains.old) 0 }
+    ensures taken { iter_rest remains.new ≡ drop 1 (iter_rest remains.old) }
+{
+    remains.next().copied().unwrap_or(0)
+}
+
+// Restarts a row, which is all of the slice as above. A loose one takes the next byte of the remains.
 pub(crate) fn restart_row(row: &mut [u8], remains: &mut Iter<'_, u8>)
     requires { length row.old ≡ 514 }
     ensures row { row.new ≡ (if is_loose row.old then revived (slice_index (iter_rest remains.old) 0) row.old else row.old) }
@@ -132,7 +142,7 @@ pub(crate) fn restart_row(row: &mut [u8], remains: &mut Iter<'_, u8>)
 {
     let row = row.as_mut_array().unwrap();
     if row_is_loose(row) {
-        let byte = remains.next().copied().unwrap_or(0);
+        let byte = take_byte(remains);
         revive(row, byte);
     }
 }

@@ -18,13 +18,17 @@ pub struct Simulated {
 
 impl Simulated {
     ghost use Rattle.device.specs.Traces.{Fixed, ReadsKeep};
-    ghost use Rattle.simulated.specs.Meaning.{image_of, state_of, Makes};
+    ghost use Rattle.device.specs.Images.{blocks};
+    ghost use Rattle.simulated.specs.Meaning.{image_of, state_of, meaning, Makes};
 
     // A device over an image of any length and any bytes, with a number of calls. What is said of a call to
     // such a device leaves nothing open of its image and the calls left.
     pub fn new(image: Vec<u8>, calls: u32) -> Simulated
-        ensures image { result.rows.image ≡ image }
-        ensures left { result.rows.left ≡ calls }
+        ensures image { image_of result ≡ image.items }
+
+        // as many blocks as the image has whole rows, at most 65,535, and so many calls
+        ensures size { (meaning result).size ≡ blocks 514 image.items }
+        ensures calls_left { (meaning result).left ≡ calls }
         ensures fixed { Fixed state_of Makes }
         ensures reads { ReadsKeep image_of Makes }
     {
@@ -35,7 +39,7 @@ impl Simulated {
 
     // The image as the device left it.
     pub fn into_image(self) -> Vec<u8>
-        ensures { result ≡ self.rows.image }
+        ensures { result.items ≡ image_of self }
     {
         self.rows.image
     }

@@ -1,6 +1,6 @@
 // Many rows of an image. They are changed by block numbers, since of a slice whose rows `chunks_mut` or `as_chunks_mut` lent a
 // proof knows nothing but the length.
-ghost use Rattle.std.specs.Prelude.{◌≡◌, ◌<◌, drop, if◌then◌else◌, slice_index};
+ghost use Rattle.std.specs.Prelude.{◌≡◌, ◌<◌, drop, if◌then◌else◌, nat_lt, slice_index};
 ghost use Rattle.std.specs.Slice.Iter.{iter_rest};
 ghost use Rattle.device.specs.Images.{put, row, EachRow};
 ghost use Rattle.simulated.specs.Rows.{is_loose, revived, synced, restarted};
@@ -31,15 +31,26 @@ pub(crate) fn sync_all(rows: &mut Imaged<ROW>)
     }
 }
 
-// Syncs the loose rows of the blocks on a list. A number that no block has is passed over.
+// Syncs the row of a block. A number that no block has is passed over.
+fn sync_named(rows: &mut Imaged<ROW>, block: u32)
+    ensures image { let xs = rows.old.image.items in
+        let r = synced 0 (row 514 xs block) in
+        rows.new.image.items ≡ (if nat_lt block rows.old.size then put 514 xs block r else xs) }
+    ensures size { rows.new.size ≡ rows.old.size }
+    ensures left { rows.new.left ≡ rows.old.left }
+{
+    if block < rows.size {
+        sync_block(rows, block);
+    }
+}
+
+// Syncs the loose rows of the blocks on a list.
 pub(crate) fn sync_listed(rows: &mut Imaged<ROW>, list: &[u32])
     ensures image { EachRow 514 (synced_if list.now) rows.old.size rows.old.image.items rows.new.image.items }
     ensures left { rows.new.left ≡ rows.old.left }
 {
     for b in list {
-        if *b < rows.size {
-            sync_block(rows, *b);
-        }
+        sync_named(rows, *b);
     }
 }
 

@@ -1,4 +1,4 @@
-use Rattle.std.proofs.Common.{ℕ, subst, rules}
+use Rattle.std.proofs.Common.{ℕ, subst}
 use Rattle.device.specs.Images.{EachRow}
 use Rattle.device.proofs.Rows.{same-blocks}
 use Rattle.simulated.specs.Rows.{restarted}
@@ -16,19 +16,19 @@ invariant_of-self-3 c =
       short = short-none c.clear.new.self.list _ c.clear.ensures;
     }
 
-pub returns : goal.returns
-returns c =
+pub returns-clause-blocks : goal.returns-clause-blocks
+returns-clause-blocks c =
     let d = c.args.self.now.rows in
     let xs = d.image.items in
     let ys = c.restart_all.new.rows.image.items in
     let rem = c.args.remains.now in
     let s = subst (λ (n : ℕ). EachRow 514 (restarted xs rem) n xs ys) d.sized c.restart_all.ensures.image in
-    record {
-      call = record {
-        size = same-blocks 514 xs ys s.len;
-        holds = restart-holds xs ys rem s;
-        loose = restart-firm xs ys rem s;
-        left = search rules;
-      };
-      kind = record { image = s; left = search rules };
-    }
+    (same-blocks 514 xs ys s.len, restart-holds xs ys rem s)
+
+pub returns-clause-loose_set : goal.returns-clause-loose_set
+returns-clause-loose_set c =
+    let d = c.args.self.now.rows in
+    let xs = d.image.items in
+    let ys = c.restart_all.new.rows.image.items in
+    let rem = c.args.remains.now in
+    restart-firm xs ys rem (subst (λ (n : ℕ). EachRow 514 (restarted xs rem) n xs ys) d.sized c.restart_all.ensures.image)
