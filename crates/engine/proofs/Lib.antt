@@ -6,3 +6,4 @@ pub mod Finds
 pub mod Openings
 pub mod Standings
 pub mod Keeping
+pub mod Readings
