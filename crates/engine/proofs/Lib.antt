@@ -7,3 +7,4 @@ pub mod Openings
 pub mod Standings
 pub mod Keeping
 pub mod Readings
+pub mod Refusals
