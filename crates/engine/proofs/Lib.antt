@@ -2,6 +2,8 @@ pub mod Errors
 pub mod Scans
 pub mod Opens
 pub mod Instructs
+pub mod Cuts
+pub mod Verdicts
 pub mod Finds
 pub mod Openings
 pub mod Standings

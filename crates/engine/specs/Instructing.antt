@@ -1,9 +1,9 @@
 -- What an instruction is answered, and what it leaves of the engine. Assumes nothing.
-use Rattle.std.specs.Prelude.{◌≡◌, ℕ, ◌+◌, cond, Ok, Err, nat_le}
-use Rattle.answers.specs.Numbers.{numbered}
+use Rattle.std.specs.Prelude.{◌≡◌, ℕ, ◌+◌, ◌<◌, cond, Ok, Err, nat_le}
+use Rattle.answers.specs.Numbers.{numbered, fault_number}
 use Rattle.answers.specs.Faults.{in_entry}
 use Rattle.instruction.specs.declared.Instruction.{Instruction}
-use Rattle.rulebook.specs.Rules.{Rulebook, about, fault_of, verdict, effect}
+use Rattle.rulebook.specs.Rules.{Rulebook, about, fault_of, answer, verdict, effect}
 use Rattle.device.specs.Calls.{Answer, and_then}
 use Rattle.journal.specs.Journal.{enter_answer, Entered}
 use Rattle.journal.specs.Blocks.{record_bytes, mark_bytes}
@@ -63,3 +63,16 @@ LeftBy (Ok u) (Err f) x v v' = CutOff x v v'
 pub record Instructed (h : Rulebook) (x : Instruction) (v v' : View) (r : Answer) : Type 0 where
   pub answer : r ≡ instruct_answer h x v
   pub after : LeftBy (checked h x v) (enter_answer v.medium v.count) x v v'
+
+-- What the checks ask for: the engine is open, the rules accept the instruction, and an entry is left for it.
+pub record Passes (h : Rulebook) (x : Instruction) (v : View) : Type 0 where
+  pub mode : v.mode ≡ Open
+  pub accepted : answer h v.standing x ≡ Ok tt
+  pub room : v.count < v.pairs
+
+-- The answer is 13 exactly where the checks pass and fewer than 4 calls are left. That instruction is then in hand, and the
+-- engine is down.
+pub record CutShort (h : Rulebook) (x : Instruction) (v v' : View) (r : Answer) : Type 0 where
+  pub only : fault_number r ≡ 13 → Passes h x v × (v.medium.left < 4)
+  pub always : Passes h x v → v.medium.left < 4 → fault_number r ≡ 13
+  pub hand : fault_number r ≡ 13 → v'.mode ≡ Down x

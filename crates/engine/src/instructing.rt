@@ -3,7 +3,7 @@ ghost use Rattle.std.specs.Prelude.{◌≡◌, ◌<◌, IfOk};
 ghost use Rattle.ledger.specs.View.{rulebook};
 ghost use Rattle.device.specs.Traces.{Traced};
 ghost use Rattle.engine.specs.View.{view};
-ghost use Rattle.engine.specs.Instructing.{checked, Instructed};
+ghost use Rattle.engine.specs.Instructing.{checked, Instructed, CutShort};
 ghost use Rattle.engine.specs.Tracing.{instruct_calls};
 
 use crate::engine::{Engine, Mode};
@@ -35,6 +35,8 @@ impl<D: Device, R: Book, C: Book> Engine<D, R, C> {
     // Carries out an instruction that the checks let pass, once its entry is written and firm.
     pub fn instruct(&mut self, x: &Instruction) -> Result<(), Fault>
         ensures done { Instructed (rulebook R.fixed C.fixed) x.now
+            (view D.medium self.old) (view D.medium self.new) result }
+        ensures cut { CutShort (rulebook R.fixed C.fixed) x.now
             (view D.medium self.old) (view D.medium self.new) result }
         ensures trace { let v = view D.medium self.old in
             Traced D.makes (instruct_calls (rulebook R.fixed C.fixed) x.now v) self.old.device self.new.device }
