@@ -4,9 +4,10 @@ use Rattle.book.specs.Rulings.{on_ok}
 use Rattle.rulebook.specs.Rules.{about}
 use Rattle.device.specs.Traces.{Traced}
 use Rattle.rulebook.proofs.Givens.{accepted}
+use Rattle.journal.proofs.Placing.{entry-placed}
 use Rattle.engine.specs.View.{view}
 use Rattle.engine.proofs.Instructs.{carried-out, let-pass}
-use Rattle.engine.proofs.Cuts.{cut-short, cut-down}
+use Rattle.engine.proofs.Cuts.{enter-done, cut-short, cut-down}
 use Rattle.engine.specs.Instructing.{checked, Instructed}
 use Rattle.engine.specs.Tracing.{entry_calls}
 use Rattle.engine.proofs.engine.Engine.instruct.Goals as goal
@@ -49,3 +50,9 @@ returns-in-Err-clause-cut g c =
     let passed : checked h x v ≡ Ok tt = search rules in
     let answered = c.in-Err.ensures.answer in
     cut-down h x v _ (let-pass (sym passed)) (sym answered) (ap (λ f. Err f) (c.about.ensures ∙ ap (about x) c.in_entry.ensures)) refl
+
+pub returns-clause-places : goal.returns-clause-places
+returns-clause-places g c done =
+    let v = view g.D.Device.medium c.args.self.now in
+    let is : c.enter.result ≡ Ok tt = search rules in
+    entry-placed v.count c.args.x.now v.medium _ (search rules) (enter-done v.medium v.count (sym c.enter.ensures.answer ∙ is)) c.enter.ensures.after
