@@ -1,10 +1,10 @@
 -- An answer of 13 to an instruction: no check gives it, and the writing of an entry gives no other refusal.
-use Rattle.std.proofs.Common.{◌≡◌, ℕ, ◌<◌, leb, Bool, true, false, cond, not, ◌&&◌, eqb, List, [], ◌∷◌, Some, None, Ok, Err, Result, sym, refl, ap, ◌∙◌, subst, arith}
+use Rattle.std.proofs.Common.{◌≡◌, ℕ, zero, suc, ◌<◌, leb, Bool, true, false, cond, not, ◌&&◌, eqb, List, [], ◌∷◌, Some, None, Ok, Err, Option, Result, sym, refl, ap, ◌∙◌, subst, arith}
 use Rattle.std.proofs.lemmas.Bool.{and_parts, cond-false, lt-leb, eqb-true, both_ways, eq-eqb}
 use Rattle.answers.specs.declared.Refusal.{Refusal}
-use Rattle.answers.specs.declared.Refusal.TheVariants.{OpeningRefused, EngineDown, JournalFull}
+use Rattle.answers.specs.declared.Refusal.TheVariants.{NoCalls, OpeningRefused, EngineDown, JournalFull}
 use Rattle.answers.specs.declared.Fault.{Fault}
-use Rattle.answers.specs.Faults.{plain, of_trade, in_entry}
+use Rattle.answers.specs.Faults.{plain, at_block, of_trade, in_entry}
 use Rattle.answers.specs.Numbers.{number_of, fault_number}
 use Rattle.instruction.specs.declared.Instruction.{Instruction}
 use Rattle.instruction.specs.Kinds.{kind_at}
@@ -16,11 +16,12 @@ use Rattle.rulebook.specs.Table.{Act}
 use Rattle.rulebook.specs.Rules.{Rulebook, Standing, answer, about, fault_of, with_trade, all_checks, verdict, names_trade}
 use Rattle.device.specs.Medium.{Medium}
 use Rattle.device.specs.Calls.{Answer, and_then}
-use Rattle.journal.specs.Journal.{enter_answer}
+use Rattle.journal.specs.Journal.{record_at, mark_at, enter_answer}
 use Rattle.engine.specs.declared.engine.Mode.{Mode}
 use Rattle.engine.specs.declared.engine.Mode.TheVariants.{Open, Down, Refused}
 use Rattle.engine.specs.View.{View}
-use Rattle.engine.specs.Instructing.{ready, room_for, checked, within_entry, LeftBy, Instructed, Passes, CutShort}
+use Rattle.engine.specs.Instructing.{ready, room_for, checked, within_entry, LeftBy, Instructed, Passes, IsFaultOf, cut_at, CutShort}
+use Rattle.engine.proofs.Refusals.{same-fault, names-by-kind}
 use Rattle.engine.proofs.Instructs.{let-pass}
 
 -- what is said with a refusal does not change it
@@ -105,6 +106,67 @@ passes {h} {x} {v} p =
     ∙ ap (λ r. and_then (with_trade x r) (room_for x v)) p.accepted
     ∙ cond-false (leb v.pairs v.count) _ _ (lt-leb v.pairs v.count p.room)
 
+-- what a fault of the checks, or of the writing, names
+
+-- what is said with a refusal, by whether the trade is named
+said-of : (x : Instruction) (k : Option ℕ) (g : Fault) (names : Bool) → names ≡ (leb 3 x.kind && leb x.kind 7) → g.entry ≡ k → g.trade ≡ None → g.rule ≡ None
+    → IsFaultOf x g.block k (cond names (of_trade x.trade g) g)
+said-of x k g true e entry trade rule = record { block = refl; entry = entry; trade = ap (λ b. cond b (Some x.trade) None) e; rule = rule }
+said-of x k g false e entry trade rule = record { block = refl; entry = entry; trade = trade ∙ ap (λ b. cond b (Some x.trade) None) e; rule = rule }
+
+plain-says : (x : Instruction) (r : Refusal) → IsFaultOf x None None (fault_of x r)
+plain-says x r = said-of x None (plain r) (names_trade (kind_at x.kind)) (names-by-kind x.kind) refl refl refl
+
+says-so : (x : Instruction) (r : Refusal) (f : Fault) → ◌≡◌ {A = Answer} (Err (fault_of x r)) (Err f) → IsFaultOf x None None f
+says-so x r f e = subst (λ g. IsFaultOf x None None g) (same-fault (fault_of x r) f e) (plain-says x r)
+
+told-says : (x : Instruction) (a : Result (Unit {0}) Refusal) (f : Fault) → with_trade x a ≡ Err f → IsFaultOf x None None f
+told-says x (Ok u) f e = absurd cc
+told-says x (Err r) f e = says-so x r f e
+
+room-says : (b : Bool) (x : Instruction) (f : Fault) → ◌≡◌ {A = Answer} (cond b (Err (fault_of x JournalFull)) (Ok tt)) (Err f) → IsFaultOf x None None f
+room-says true x f e = says-so x JournalFull f e
+room-says false x f e = absurd cc
+
+then-says : (x : Instruction) (a b : Answer) (f : Fault) → (a ≡ Err f → IsFaultOf x None None f) → (b ≡ Err f → IsFaultOf x None None f) → and_then a b ≡ Err f → IsFaultOf x None None f
+then-says x (Ok u) b f p q e = q e
+then-says x (Err g) b f p q e = p e
+
+ready-says : (m : Mode) (x : Instruction) (a : Answer) (f : Fault) → (a ≡ Err f → IsFaultOf x None None f) → ready m x a ≡ Err f → IsFaultOf x None None f
+ready-says Open x a f p e = p e
+ready-says (Down y) x a f p e = says-so x EngineDown f e
+ready-says (Refused g) x a f p e = says-so x OpeningRefused f e
+
+checked-says : (h : Rulebook) (x : Instruction) (v : View) (f : Fault) → checked h x v ≡ Err f → IsFaultOf x None None f
+checked-says h x v f e =
+    ready-says v.mode x (and_then (verdict h v.standing x) (room_for x v)) f
+    (λ q. then-says x (verdict h v.standing x) (room_for x v) f (told-says x (answer h v.standing x) f) (room-says (leb v.pairs v.count) x f) q) e
+
+-- the answer to the calls of an entry, by the calls left
+abbrev answer_by : ℕ → ℕ → Answer
+answer_by n k =
+    cond (eqb n 0) (Err (at_block NoCalls (record_at k))) (cond (eqb n 1) (Err (plain NoCalls)) (cond (eqb n 2) (Err (at_block NoCalls (mark_at k))) (cond (eqb n 3) (Err (plain NoCalls)) (Ok tt))))
+
+record CutSays (n k : ℕ) (f : Fault) : Type 0 where
+  block : f.block ≡ cut_at k n
+  trade : f.trade ≡ None
+  rule : f.rule ≡ None
+
+says-as : (n k : ℕ) (g f : Fault) → ◌≡◌ {A = Answer} (Err g) (Err f) → CutSays n k g → CutSays n k f
+says-as n k g f e s = subst (λ x. CutSays n k x) (same-fault g f e) s
+
+cut-says : (n k : ℕ) (f : Fault) → n < 4 → answer_by n k ≡ Err f → CutSays n k f
+cut-says zero k f l e = says-as 0 k (at_block NoCalls (record_at k)) f e (record { block = refl; trade = refl; rule = refl })
+cut-says (suc zero) k f l e = says-as 1 k (plain NoCalls) f e (record { block = refl; trade = refl; rule = refl })
+cut-says (suc (suc zero)) k f l e = says-as 2 k (at_block NoCalls (mark_at k)) f e (record { block = refl; trade = refl; rule = refl })
+cut-says (suc (suc (suc zero))) k f l e = says-as 3 k (plain NoCalls) f e (record { block = refl; trade = refl; rule = refl })
+cut-says (suc (suc (suc (suc n)))) k f l e = absurd (omega arith)
+
+within-says : (n k : ℕ) (x : Instruction) (g : Fault) → CutSays n k g → IsFaultOf x (cut_at k n) (Some k) (about x (in_entry k g))
+within-says n k x g s =
+    let i = said-of x (Some k) (in_entry k g) (names_trade (kind_at x.kind)) (names-by-kind x.kind) refl s.trade s.rule in
+    record { block = i.block ∙ s.block; entry = i.entry; trade = i.trade; rule = i.rule }
+
 none-is-13 : ◌≡◌ {A = ℕ} 0 13 → ⊥
 none-is-13 e = omega arith
 
@@ -113,10 +175,15 @@ module _ (h : Rulebook) (x : Instruction) (v v' : View) where
   pub cut-down : Passes h x v → {f : Fault} → enter_answer v.medium v.count ≡ Err f → {r : Answer} → r ≡ Err (about x (in_entry v.count f)) → v'.mode ≡ Down x → CutShort h x v v' r
   cut-down p {f} ew {r} er down =
       let cut = enter-cut v.medium v.count f ew in
+      let is : fault_number r ≡ 13 = ap fault_number er ∙ ap number_of (about-refusal-as (names_trade (kind_at x.kind)) (in_entry v.count f) x.trade) ∙ eqb-true (number_of f.refusal) 13 cut.0 in
       record {
         only = λ e. (p, cut.1);
-        always = λ q l. ap fault_number er ∙ ap number_of (about-refusal-as (names_trade (kind_at x.kind)) (in_entry v.count f) x.trade) ∙ eqb-true (number_of f.refusal) 13 cut.0;
+        always = λ q l. is;
         hand = λ e. down;
+        cut = λ g eg n.
+            subst (λ y. IsFaultOf x (cut_at v.count v.medium.left) (Some v.count) y) (same-fault (about x (in_entry v.count f)) g (sym er ∙ eg))
+            (within-says v.medium.left v.count x f (cut-says v.medium.left v.count f cut.1 ew));
+        check = λ g eg n. absurd (n (ap fault_number (sym eg) ∙ is));
       }
 
   -- by what the checks answer, and what the writing of the entry does
@@ -128,6 +195,8 @@ module _ (h : Rulebook) (x : Instruction) (v v' : View) where
         only = λ e. absurd (other e);
         always = λ p l. (let q : ◌≡◌ {A = Answer} (Err f) (Ok tt) = sym ec ∙ passes p in absurd cc);
         hand = λ e. absurd (other e);
+        cut = λ g eg n. absurd (other (ap fault_number eg ∙ n));
+        check = λ g eg n. subst (λ y. IsFaultOf x None None y) (same-fault f g (sym er ∙ eg)) (checked-says h x v f ec);
       }
   cut-by (Ok u) (Ok z) r ec ew er left =
       let done = enter-done v.medium v.count ew in
@@ -136,6 +205,8 @@ module _ (h : Rulebook) (x : Instruction) (v v' : View) where
         only = λ e. absurd (other e);
         always = λ p l. absurd (omega arith);
         hand = λ e. absurd (other e);
+        cut = λ g eg n. absurd (other (ap fault_number eg ∙ n));
+        check = λ g eg n. (let q : ◌≡◌ {A = Answer} (Ok tt) (Err g) = sym er ∙ eg in absurd cc);
       }
   cut-by (Ok u) (Err f) r ec ew er left = cut-down (let-pass (sym ec)) ew er left.mode
 

@@ -27,7 +27,7 @@ as-said : {X : Type 0} {n : ℕ} {b k : Option ℕ} {g : Fault} (f : Fault) → 
 as-said {X} {n} {b} {k} {g} f e i = subst (λ x. IsFault n b k x) (same-fault g f e) i
 
 -- an instruction names its trade where its kind is 3 to 7
-names-by-kind : (n : ℕ) → names_trade (kind_at n) ≡ (leb 3 n && leb n 7)
+pub names-by-kind : (n : ℕ) → names_trade (kind_at n) ≡ (leb 3 n && leb n 7)
 names-by-kind n = grind arith
 
 -- what the rules' fault says, by whether it names the trade
