@@ -1,4 +1,4 @@
--- What each call does to the device, by what the device's kind says exactly. Assumes nothing.
+-- What each call does to the device, by what the device's kind says exactly.
 use Rattle.std.specs.Prelude.{◌≡◌}
 use Rattle.rulebook.specs.Rules.{Rulebook}
 use Rattle.device.specs.Medium.{Medium}
@@ -8,7 +8,7 @@ use Rattle.book.specs.declared.Book as book
 use Rattle.engine.specs.Tracing.{instruct_calls}
 use Rattle.depository.specs.declared.condition.Condition.{Condition}
 use Rattle.depository.specs.declared.condition.Condition.TheVariants.{Running, Shut}
-use Rattle.depository.specs.Orders.{Order, to_instruct, to_close, to_restart, to_open, to_ask}
+use Rattle.depository.specs.Orders.{Order, to_instruct, to_restart, to_open}
 use Rattle.depository.specs.Moments.{Phase, running, shut}
 
 -- what the device means
@@ -25,12 +25,6 @@ module _ {D : Type 0} (makes : D → DeviceCall → D → Type 0) (h : Rulebook)
   -- the calls of an instruction, the reads of an opening, a restart; all else leaves the device
   abbrev pub Handled : Phase → Order → D → D → Type 0
   Handled (running v) (to_instruct x) d e = Traced makes (instruct_calls h x v) d e
-  Handled (running v) to_close d e = e ≡ d
-  Handled (running v) (to_restart q remains) d e = e ≡ d
-  Handled (running v) to_open d e = e ≡ d
-  Handled (running v) (to_ask question) d e = e ≡ d
-  Handled (shut m books) (to_instruct x) d e = e ≡ d
-  Handled (shut m books) to_close d e = e ≡ d
   Handled (shut m books) (to_restart q remains) d e = makes d (restarting q remains) e
   Handled (shut m books) to_open d e = ReadOnly makes d e
-  Handled (shut m books) (to_ask question) d e = e ≡ d
+  Handled a c d e = e ≡ d

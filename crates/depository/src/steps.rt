@@ -8,7 +8,7 @@ ghost use Rattle.depository.specs.Orders.{to_instruct, to_close, to_restart, to_
 ghost use Rattle.depository.specs.Moments.{moment_of};
 ghost use Rattle.depository.specs.Calling.{told, Does};
 ghost use Rattle.depository.specs.Handling.{Handled, device_of};
-ghost use Rattle.depository.specs.Steps.{Step};
+ghost use Rattle.instruction.specs.declared.Instruction.{Instruction};
 
 use crate::calls::{Call, Fact, Opened, Question, Reply};
 use crate::condition::{Condition, Depository};
@@ -57,15 +57,15 @@ impl<D: PoweredDevice, R: Book, C: Book> Depository<D, R, C> {
         ensures device { Handled D.makes (rulebook R.fixed C.fixed) (moment_of self).phase to_close
             (device_of self.condition) (device_of result.0.condition) }
     {
-        let Depository { condition, last } = self;
+        let Depository { condition, owed } = self;
         match condition {
             Condition::Running(engine) => {
                 let (device, register, cash, slip) = engine.close();
                 let condition = Condition::Shut(device, register, cash);
-                let last = latest(last, slip);
-                (Depository { condition, last }, Reply::Done)
+                let owed = latest(owed, slip);
+                (Depository { condition, owed }, Reply::Done)
             }
-            condition => (Depository { condition, last }, Reply::Misfit),
+            condition => (Depository { condition, owed }, Reply::Misfit),
         }
     }
 
@@ -90,22 +90,22 @@ impl<D: PoweredDevice, R: Book, C: Book> Depository<D, R, C> {
         ensures device { Handled D.makes (rulebook R.fixed C.fixed) (moment_of self).phase to_open
             (device_of self.condition) (device_of result.0.condition) }
     {
-        let Depository { condition, last } = self;
+        let Depository { condition, owed } = self;
         match condition {
             Condition::Shut(device, register, cash) => {
                 let engine = Engine::open(device, register, cash);
                 let answer = engine.opening();
                 let found = engine.found();
-                let (presented, last) = present(&engine, last);
+                let (presented, owed) = present(&engine, owed);
                 let condition = Condition::Running(engine);
                 let opened = Opened {
                     answer,
                     found,
                     presented,
                 };
-                (Depository { condition, last }, Reply::Opened(opened))
+                (Depository { condition, owed }, Reply::Opened(opened))
             }
-            condition => (Depository { condition, last }, Reply::Misfit),
+            condition => (Depository { condition, owed }, Reply::Misfit),
         }
     }
 
@@ -121,8 +121,9 @@ impl<D: PoweredDevice, R: Book, C: Book> Depository<D, R, C> {
     }
 
     // Gives one call, and answers it.
-    pub fn give(mut self, call: &Call<'_>) -> (Self, Reply)
-        ensures step { Step (rulebook R.fixed C.fixed) D.PoweredDevice.most
+    pub(crate) fn give(mut self, call: &Call<'_>) -> (Self, Reply)
+        ensures fit { (x : Instruction) → order call.now ≡ to_instruct x → Fit x }
+        ensures does { Does (rulebook R.fixed C.fixed) D.PoweredDevice.most
             (moment_of self) (order call.now) result.1 (moment_of result.0) }
         ensures device { Handled D.makes (rulebook R.fixed C.fixed) (moment_of self).phase (order call.now)
             (device_of self.condition) (device_of result.0.condition) }

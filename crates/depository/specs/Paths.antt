@@ -1,0 +1,38 @@
+-- One call after another.
+use Rattle.std.specs.Prelude.{◌≡◌, ℕ, List, [], ◌∷◌, None, Option}
+use Rattle.std.specs.Option.{option_or}
+use Rattle.instruction.specs.declared.Instruction.{Instruction}
+use Rattle.instruction.specs.Layout.{Fit}
+use Rattle.rulebook.specs.Rules.{Rulebook}
+use Rattle.device.specs.Medium.{Medium}
+use Rattle.device.specs.Traces.{DeviceCall}
+use Rattle.engine.specs.declared.slip.Contents.{Contents}
+use Rattle.engine.specs.Asking.{closing}
+use Rattle.depository.specs.Orders.{Order, to_instruct, to_close}
+use Rattle.depository.specs.declared.calls.Reply.{Reply}
+use Rattle.depository.specs.Moments.{Phase, running, Moment}
+use Rattle.depository.specs.Calling.{Does}
+use Rattle.depository.specs.Handling.{medium_in, Handled}
+
+-- The calls cs, answered rs, lead one after another from the moment a and the device d to b and e: each by the relations that
+-- the contracts of the engine and of the device state, the device meaning what the moment says.
+pub data Path {D : Type 0} (makes : D → DeviceCall → D → Type 0) (means : D → Medium) (h : Rulebook) (most : ℕ) : Moment → D → List Order → List Reply → Moment → D → Type 0 where
+  done : {a : Moment} {d : D} → means d ≡ medium_in a.phase → Path makes means h most a d [] [] a d
+  onward : {a m b : Moment} {d e f : D} {c : Order} {r : Reply} {cs : List Order} {rs : List Reply}
+      → means d ≡ medium_in a.phase
+      → ((x : Instruction) → c ≡ to_instruct x → Fit x)
+      → Does h most a c r m
+      → Handled makes h a.phase c d e
+      → Path makes means h most m e cs rs b f
+      → Path makes means h most a d (c ∷ cs) (r ∷ rs) b f
+
+-- what a call tells by a closing slip: a close of an engine, unless its opening was refused
+abbrev pub closing_told : Phase → Order → Option Contents
+closing_told (running v) to_close = closing v
+closing_told a c = None
+
+-- what the last closing told that was not unknown: one of the later calls', or else this one's
+unfoldable pub last_closing : {D : Type 0} {makes : D → DeviceCall → D → Type 0} {means : D → Medium} {h : Rulebook} {most : ℕ} {a b : Moment} {d e : D} {cs : List Order} {rs : List Reply} → Path makes means h most a d cs rs b e → Option Contents
+last_closing (done is) = None
+last_closing (onward {a = a} {c = c} is fit does hd rest) =
+    option_or (last_closing rest) (closing_told a.phase c)
