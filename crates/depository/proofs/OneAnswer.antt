@@ -7,7 +7,7 @@ use Rattle.rulebook.specs.Rules.{Rulebook}
 use Rattle.device.specs.Medium.{Medium}
 use Rattle.device.specs.Calls.{Answer}
 use Rattle.device.specs.Traces.{DeviceCall, restarting, Traced}
-use Rattle.device.proofs.Traces.{traced-fixed, traced-reads}
+use Rattle.device.proofs.Traces.{traced-fixed}
 use Rattle.journal.specs.Blocks.{header_bytes}
 use Rattle.journal.specs.Format.{format_calls}
 use Rattle.journal.specs.Journal.{enter_answer}
@@ -15,7 +15,7 @@ use Rattle.engine.specs.declared.slip.Contents.{Contents}
 use Rattle.engine.specs.View.{View}
 use Rattle.engine.specs.Opening.{header_for}
 use Rattle.engine.specs.Instructing.{checked, LeftBy}
-use Rattle.engine.specs.Tracing.{instruct_calls}
+use Rattle.engine.specs.Tracing.{instruct_calls, opening_calls}
 use Rattle.depository.specs.declared.calls.Reply.{Reply}
 use Rattle.depository.specs.declared.calls.Reply.TheVariants.{Instructed}
 use Rattle.depository.specs.Orders.{Order, to_instruct, to_close, to_restart, to_open, to_ask}
@@ -43,7 +43,7 @@ starts-at : {D : Type 0} {makes : D → DeviceCall → D → Type 0} {means : D 
 starts-at (done is) = is
 starts-at (onward is fit does hd q) = is
 
-module _ {D S I : Type 0} (makes : D → DeviceCall → D → Type 0) (means : D → Medium) (seen : D → S) (image : D → I) (z : Settled makes means seen image) (h : Rulebook) (most : ℕ) where
+module _ {D S : Type 0} (makes : D → DeviceCall → D → Type 0) (means : D → Medium) (seen : D → S) (z : Settled makes means seen) (h : Rulebook) (most : ℕ) where
   -- two ends of a call
   record Same (r r' : Reply) (b b' : Moment) (e e' : D) : Type 0 where
     reply : r ≡ r'
@@ -89,10 +89,7 @@ module _ {D S I : Type 0} (makes : D → DeviceCall → D → Type 0) (means : D
           device = p;
         }
     shut-one m books l to_open one two k k' =
-        let i = traced-reads makes image z.reads k.0 k.1 d e k.2 in
-        let i' = traced-reads makes image z.reads k'.0 k'.1 d' e' k'.2 in
-        let left : (means e).left ≡ (means e').left = ap (λ n. n.left) (t ∙ ap (λ n. medium_in n.phase) (one.leads ∙ sym two.leads) ∙ sym t') in
-        still one two (z.whole e e' (i ∙ z.images d d' s ∙ sym i') left)
+        still one two (traced-fixed makes seen z.fixed (opening_calls h m) d d' e e' k k' s)
     shut-one m books l (to_ask q) one two k k' = still one two (kept-device k k' s)
 
     step-one : (a : Phase) (l : Option Contents) (c : Order) → Does h most (at a l) c r b → Does h most (at a l) c r' b' → Handled makes h a c d e → Handled makes h a c d' e' → Same r r' b b' e e'

@@ -6,6 +6,7 @@ use Rattle.instruction.specs.Layout.{Fit}
 use Rattle.rulebook.specs.Rules.{Rulebook}
 use Rattle.depository.specs.declared.calls.Reply.{Reply}
 use Rattle.depository.specs.declared.calls.Call.{Call}
+use Rattle.depository.specs.declared.calls.Call.TheVariants.{Instruct}
 use Rattle.depository.specs.Orders.{Order, to_instruct, to_ask, order}
 use Rattle.depository.specs.declared.calls.Question.{Question}
 use Rattle.depository.specs.Calling.{Does}
@@ -18,6 +19,10 @@ use Rattle.depository.specs.declared.condition.Condition.TheVariants.{Running, S
 use Rattle.depository.specs.Moments.{Phase, running, shut, Moment, phase_of}
 use Rattle.depository.specs.Handling.{medium_in, device_of, Handled}
 use Rattle.depository.specs.Paths.{Path, done, onward}
+
+-- what is read past the end of a list of calls
+abbrev pub unasked : Call
+unasked = Instruct (record { kind = 0; account = 0; counterparty = 0; item = 0; currency = 0; trade = 0; quantity = 0; amount = 0 })
 
 -- the instruction of a call fits its fields
 abbrev pub FitIn : Order → Type 0

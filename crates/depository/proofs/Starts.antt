@@ -1,5 +1,5 @@
 -- A depository after a format.
-use Rattle.std.proofs.Common.{◌∙◌, ◌≡◌, ℕ, ◌+◌, ◌*◌, ◌<◌, ◌≤◌, Bool, true, false, cond, List, [], ◌∷◌, ◌++◌, take, None, Ok, Err, sym, refl, subst, arith}
+use Rattle.std.proofs.Common.{◌≡◌, ℕ, ◌+◌, ◌*◌, ◌<◌, ◌≤◌, Bool, true, false, cond, List, [], ◌∷◌, ◌++◌, take, None, Ok, Err, sym, refl, subst, arith}
 use Rattle.answers.specs.declared.Fault.{Fault}
 use Rattle.answers.specs.declared.Refusal.TheVariants.{NoRoom}
 use Rattle.answers.specs.Faults.{plain}
@@ -10,9 +10,8 @@ use Rattle.rulebook.proofs.Meanings.{last-words}
 use Rattle.device.specs.Medium.{Medium, Bounded}
 use Rattle.device.specs.Calls.{Answer}
 use Rattle.device.specs.Traces.{DeviceCall, writing, syncing, Traced}
-use Rattle.journal.specs.Blocks.{zeros, header_bytes, layout}
+use Rattle.journal.specs.Blocks.{zeros, header_bytes}
 use Rattle.journal.proofs.Fresh.{fresh-journal}
-use Rattle.journal.specs.Journal.{Journal}
 use Rattle.journal.specs.Format.{no_room, format_answer, header_for as format_header, Formatted, mark_writes, format_calls}
 use Rattle.engine.specs.Opening.{header_for}
 use Rattle.depository.specs.declared.calls.Reply.{Reply}
@@ -20,7 +19,7 @@ use Rattle.depository.specs.Orders.{Order}
 use Rattle.depository.specs.Moments.{Moment, shut, at}
 use Rattle.depository.specs.Tally.{fresh}
 use Rattle.depository.specs.Paths.{Path}
-use Rattle.depository.specs.Law.{AfterFormat, Run, Survives}
+use Rattle.depository.specs.Law.{AfterFormat, Survives}
 use Rattle.depository.proofs.Kept.{Paired, Kept}
 use Rattle.depository.proofs.Survival.{law, beyond}
 

@@ -17,7 +17,7 @@ use Rattle.engine.specs.declared.engine.Mode.{Mode}
 use Rattle.engine.specs.declared.engine.Mode.TheVariants.{Open, Down, Refused}
 use Rattle.engine.specs.declared.slip.Contents.{Contents}
 use Rattle.engine.specs.View.{View}
-use Rattle.engine.specs.Asking.{opening_answer, told_by, closing}
+use Rattle.engine.specs.Asking.{opening_answer, told_by}
 use Rattle.engine.specs.Instructing.{checked, LeftBy}
 use Rattle.engine.specs.Lasting.{listed, written_by}
 use Rattle.engine.specs.Opening.{opened}
@@ -28,14 +28,14 @@ use Rattle.depository.specs.declared.calls.Reply.TheVariants.{Misfit, Opened as 
 use Rattle.depository.specs.declared.calls.Opened.{Opened}
 use Rattle.depository.specs.Slips.{latest}
 use Rattle.depository.specs.Moments.{Phase, running, shut, Moment, at}
-use Rattle.depository.specs.Handling.{medium_in, Handled}
+use Rattle.depository.specs.Handling.{medium_in}
 use Rattle.depository.specs.Calling.{Leads, Does, slip_answer, owed_after, opened_reply}
 use Rattle.depository.specs.Tally.{Tally, feed, fresh, tally, tally_from}
 use Rattle.depository.specs.Paths.{Path, done, onward, closing_told, last_closing}
 use Rattle.depository.specs.Law.{Stands, Judged, OpenedWell, Law, Beyond}
-use Rattle.depository.proofs.Kept.{Paired, InEngine, KeptBy, KeptIn, Kept, Matches, OnDevice}
+use Rattle.depository.proofs.Kept.{Paired, InEngine, KeptBy, KeptIn, Kept}
 use Rattle.depository.proofs.Instructed.{instructed}
-use Rattle.depository.proofs.Reopened.{closed, restarted, Reopened, reopened}
+use Rattle.depository.proofs.Reopened.{closed, restarted, reopened}
 
 -- What is owed, against what the last closing told: an engine that is open or down owes what it likes, since its own slip will
 -- tell something.
