@@ -56,6 +56,9 @@ or-or : {X : Type 0} (a b c : Option X) → option_or a (option_or b c) ≡ opti
 or-or None b c = refl
 or-or (Some x) b c = refl
 
+pub same-reply : {o o' : Opened} → OpenedReply o ≡ OpenedReply o' → o ≡ o'
+same-reply e = cc
+
 module _ (h : Rulebook) (most : ℕ) where
   owes-at : (told : Option Contents) {r r₀ : Reply} {b b₀ : Moment} → Leads r r₀ b b₀ → Owes told b₀.phase b₀.owed → Owes told b.phase b.owed
   owes-at told e o = subst (λ (n : Moment). Owes told n.phase n.owed) (sym e.leads) o
@@ -150,9 +153,6 @@ module _ (h : Rulebook) (most pairs : ℕ) (p : Paired pairs) (c₁ : (h.kind se
   -- the open that comes next
   well : (m : Medium) (l : Option Contents) (r : Reply) → opening_answer (opened h m).mode ≡ Ok tt → r ≡ opened_reply (opened h m) l → OpenedWell r
   well m l r e is = (record { answer = opening_answer (opened h m).mode; found = (opened h m).found; presented = slip_answer (opened h m).mode (opened h m).found (opened h m).last l }, is, e)
-
-  same-reply : {o o' : Opened} → OpenedReply o ≡ OpenedReply o' → o ≡ o'
-  same-reply e = cc
 
   same-engine : {v w : View} → running v ≡ running w → v ≡ w
   same-engine e = cc
