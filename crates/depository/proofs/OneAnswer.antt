@@ -41,7 +41,7 @@ view-one (Ok u) (Err f) x v v₁ v₂ one two e =
 -- what a path's first device means
 starts-at : {D : Type 0} {makes : D → DeviceCall → D → Type 0} {means : D → Medium} {h : Rulebook} {most : ℕ} {a b : Moment} {d e : D} {cs : List Order} {rs : List Reply} → Path makes means h most a d cs rs b e → means d ≡ medium_in a.phase
 starts-at (done is) = is
-starts-at (onward is fit does hd q) = is
+starts-at (onward s q) = s.means-it
 
 module _ {D S : Type 0} (makes : D → DeviceCall → D → Type 0) (means : D → Medium) (seen : D → S) (z : Settled makes means seen) (h : Rulebook) (most : ℕ) where
   -- two ends of a call
@@ -99,8 +99,8 @@ module _ {D S : Type 0} (makes : D → DeviceCall → D → Type 0) (means : D �
   -- two paths of the same calls have the same answers
   alike : {a : Moment} {d d' : D} {cs : List Order} {rs rs' : List Reply} {b b' : Moment} {e e' : D} → seen d ≡ seen d' → Path makes means h most a d cs rs b e → Path makes means h most a d' cs rs' b' e' → rs ≡ rs'
   alike s (done is) (done is') = refl
-  alike s (onward {a = a} {m = m} {d = d} {e = e} {c = c} {r = r} {cs = cs} {rs = rs} is fit does hd p) (onward {m = m'} {b = b'} {e = e'} {f = f'} {r = r'} {rs = rs'} is' fit' does' hd' p') =
-      let n = step-one s (starts-at p) (starts-at p') a.phase a.owed c does does' hd hd' in
+  alike s (onward {a = a} {m = m} {d = d} {e = e} {c = c} {r = r} {cs = cs} {rs = rs} t p) (onward {m = m'} {b = b'} {e = e'} {f = f'} {r = r'} {rs = rs'} t' p') =
+      let n = step-one s (starts-at p) (starts-at p') a.phase a.owed c t.does t'.does t.handled t'.handled in
       let q = subst (λ k. Path makes means h most k e' cs rs' b' f') (sym n.moment) p' in
       let rest = alike n.device p q in
       λ i. n.reply i ∷ rest i

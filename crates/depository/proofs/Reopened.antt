@@ -23,6 +23,7 @@ use Rattle.engine.specs.Lasting.{written_by}
 use Rattle.engine.proofs.Keeping.{WithOrWithout, Holding, FoundBy}
 use Rattle.engine.proofs.Finds.{last-more}
 use Rattle.engine.proofs.Openings.{opens}
+use Rattle.depository.specs.declared.calls.Opened.{Opened}
 use Rattle.depository.specs.Slips.{latest}
 use Rattle.depository.specs.Calling.{slip_answer, owed_after}
 use Rattle.depository.specs.Tally.{Tally, fed_opening, with_hand}
@@ -69,15 +70,19 @@ module _ (h : Rulebook) (pairs : ℕ) (t : Tally) where
     size = omega (arith, r.size, k.size);
   }
 
+  -- what is answered to the open that gave an engine
+  abbrev answered : Mode → View → Option Contents → Opened
+  answered m v l = record { answer = opening_answer m; found = v.found; presented = slip_answer m v.found v.last l }
+
   -- what an opening answered 0 found is what the verdict on the slip has the tally take
   pub record Agrees (l : Option Contents) (v : View) (ys : List Instruction) : Type 0 where
     pub fed : fed_opening t (Ok tt) (slip_answer Open v.found v.last l) ≡ record { list = ys; hand = None }
-    pub judged : Judged l (slip_answer Open v.found v.last l) v
+    pub judged : Judged l (answered Open v l) v
 
-  none-judged : (v : View) → Judged None None v
+  none-judged : (v : View) → Judged None (answered Open v None) v
   none-judged v = record { none = λ e. refl; judged = λ c e. absurd (nothing-is-some e); upheld = λ w e. absurd (nothing-is-some e) }
 
-  is-judged : (c : Contents) (v : View) (w : Verdict) → judged (Some c) v.found v.last ≡ w → Judges (Some c) v.found v.last w → (verdict_number w ≡ 0) ⊎ (verdict_number w ≡ 1) → Judged (Some c) (Some (Ok (judged (Some c) v.found v.last))) v
+  is-judged : (c : Contents) (v : View) (w : Verdict) → judged (Some c) v.found v.last ≡ w → Judges (Some c) v.found v.last w → (verdict_number w ≡ 0) ⊎ (verdict_number w ≡ 1) → Judged (Some c) (answered Open v (Some c)) v
   is-judged c v w e j up = record {
     none = λ e. absurd (nothing-is-some (sym e));
     judged = λ b same. let q : c ≡ b = cc in (w, ap (λ u. Some (Ok u)) e, subst (λ u. Judges (Some u) v.found v.last w) q j);
@@ -114,14 +119,14 @@ module _ (h : Rulebook) (pairs : ℕ) (t : Tally) where
 
   -- one that is refused is refused for want of calls, and one that is not says of the slip what the law has it say
   abbrev Says : Option Contents → View → Mode → Type 0
-  Says l v Open = Judged l (slip_answer Open v.found v.last l) v
+  Says l v Open = Judged l (answered Open v l) v
   Says l v (Down x) = ⊥
   Says l v (Refused f) = number_of f.refusal ≡ 13
 
   -- what an opening makes of a tally that the device kept
   pub record Reopened (m : Medium) (l : Option Contents) (v : View) : Type 0 where
     pub kept : KeptBy h pairs (fed_opening t (opening_answer v.mode) (slip_answer v.mode v.found v.last l)) v (owed_after v.mode l) v.mode
-    pub judged : opening_answer v.mode ≡ Ok tt → Judged l (slip_answer v.mode v.found v.last l) v
+    pub judged : opening_answer v.mode ≡ Ok tt → Judged l (answered v.mode v l) v
     pub refused : (f : Fault) → opening_answer v.mode ≡ Err f → number_of f.refusal ≡ 13
     pub prompt : 1 + 2 * pairs ≤ m.left → opening_answer v.mode ≡ Ok tt
 
@@ -145,7 +150,7 @@ module _ (h : Rulebook) (pairs : ℕ) (t : Tally) where
   kept-as w l v (Down x) k ml size f = absurd f
   kept-as w l v (Refused f) k ml size j = ((record { journal = j.1; lawful = k.lawful; size = size }, ml), j.0)
 
-  says-judged : (l : Option Contents) (v : View) (m : Mode) → Says l v m → opening_answer m ≡ Ok tt → Judged l (slip_answer m v.found v.last l) v
+  says-judged : (l : Option Contents) (v : View) (m : Mode) → Says l v m → opening_answer m ≡ Ok tt → Judged l (answered m v l) v
   says-judged l v Open s e = s
   says-judged l v (Down x) s e = absurd s
   says-judged l v (Refused f) s e = absurd cc

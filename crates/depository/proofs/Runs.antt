@@ -34,8 +34,8 @@ fit-of x fit y e = let q : x ≡ y = cc in subst Fit q fit
 module _ {D : Type 0} (makes : D → DeviceCall → D → Type 0) (means : D → Medium) (h : Rulebook) (most : ℕ) where
   one-more : {a m b : Moment} {d e f : D} {cs : List Order} {rs : List Reply} {c : Order} (r : Reply) → Path makes means h most a d cs rs m e → FitIn c → Does h most m c r b → Handled makes h m.phase c e f → means f ≡ medium_in b.phase
       → Path makes means h most a d (cs ++ (c ∷ [])) (rs ++ (r ∷ [])) b f
-  one-more r (done is) fit s hd then = onward is fit s hd (done then)
-  one-more r' (onward is fit t hd p) fit' s hd' then = onward is fit t hd (one-more r' p fit' s hd' then)
+  one-more r (done is) fit s hd then = onward (record { means-it = is; fit = fit; does = s; handled = hd }) (done then)
+  one-more r' (onward t p) fit s hd then = onward t (one-more r' p fit s hd then)
 
   -- one call more, from a list of calls
   pub next-call : {a m b : Moment} {d e f : D} (none : Call) (cs : List Call) (i : ℕ) (r : Reply) {rs rs' : List Reply} → i < length cs → Path makes means h most a d (map order (take i cs)) rs m e → FitIn (order (get_or cs i none))

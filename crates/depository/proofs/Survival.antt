@@ -95,9 +95,9 @@ module _ (h : Rulebook) (most : ℕ) where
       → Owes (option_or (last_closing q) told) b.phase b.owed
   unfolding last_closing
   owes-along told (done is) o = o
-  owes-along told (onward {a = a} {m = m} {b = b} {c = c} {r = r} is fit does hd q) o =
+  owes-along told (onward {a = a} {m = m} {b = b} {c = c} {r = r} s q) o =
       subst (λ u. Owes u b.phase b.owed) (or-or (last_closing q) (closing_told a.phase c) told)
-      (owes-along (option_or (closing_told a.phase c) told) q (owes-next told a.phase a.owed c r m does o))
+      (owes-along (option_or (closing_told a.phase c) told) q (owes-next told a.phase a.owed c r m s.does o))
 
 module _ (h : Rulebook) (most pairs : ℕ) (p : Paired pairs) (c₁ : (h.kind securities).code < 256) (c₂ : (h.kind cash).code < 256) where
   by-leads : (t : Tally) (c : Order) {r r₀ : Reply} {b b₀ : Moment} → Leads r r₀ b b₀ → Kept h pairs (feed t c r₀) b₀ → Kept h pairs (feed t c r) b
@@ -176,15 +176,15 @@ module _ (h : Rulebook) (most pairs : ℕ) (p : Paired pairs) (c₁ : (h.kind se
       (reopened h pairs t m l p c₁ c₂ bounded k.0 k.1).refused f (ap (λ (u : Opened). u.answer) same ∙ e)
 
   verdict : (t : Tally) (told : Option Contents) (a : Phase) (l : Option Contents) → Kept h pairs t (at a l) → Owes told a l → Bounded (medium_in a) → (r : Reply) (z : Moment) → Does h most (at a l) to_open r z
-      → (o : Opened) (v : View) → r ≡ OpenedReply o → o.answer ≡ Ok tt → z.phase ≡ running v → Judged told o.presented v
+      → (o : Opened) (v : View) → r ≡ OpenedReply o → o.answer ≡ Ok tt → z.phase ≡ running v → Judged told o v
   verdict t told (running w) l k owes bounded r z d o v is e gives = absurd (no-misfit (sym is ∙ d.answer))
   verdict t told (shut m books) l k owes bounded r z d o v is e gives =
       let same = same-reply (sym d.answer ∙ is) in
       let engine : opened h m ≡ v = same-engine (sym (ap (λ (n : Moment). n.phase) d.leads) ∙ gives) in
       let j = (reopened h pairs t m l p c₁ c₂ bounded k.0 k.1).judged (ap (λ (u : Opened). u.answer) same ∙ e) in
-      let j₁ = subst (λ (u : Opened). Judged l u.presented (opened h m)) same j in
-      let j₂ = subst (λ u. Judged l o.presented u) engine j₁ in
-      subst (λ u. Judged u o.presented v) owes j₂
+      let j₁ = subst (λ (u : Opened). Judged l u (opened h m)) same j in
+      let j₂ = subst (λ u. Judged l o u) engine j₁ in
+      subst (λ u. Judged u o v) owes j₂
 
   module _ {D : Type 0} (makes : D → DeviceCall → D → Type 0) (means : D → Medium) (bounds : (x : D) → Bounded (means x)) where
     bounded-in : (a : Phase) (x : D) → means x ≡ medium_in a → Bounded (medium_in a)
@@ -192,13 +192,13 @@ module _ (h : Rulebook) (most pairs : ℕ) (p : Paired pairs) (c₁ : (h.kind se
 
     path-means : {a b : Moment} {d e : D} {cs : List Order} {rs : List Reply} → Path makes means h most a d cs rs b e → means e ≡ medium_in b.phase
     path-means (done is) = is
-    path-means (onward is fit does hd q) = path-means q
+    path-means (onward s q) = path-means q
 
     -- what is kept is kept along a path
     kept-along : {a b : Moment} {d e : D} {cs : List Order} {rs : List Reply} (t : Tally) → Path makes means h most a d cs rs b e → Kept h pairs t a → Kept h pairs (tally_from t cs rs) b
     kept-along t (done {a = a} is) k = subst (λ u. Kept h pairs u a) (sym (tally-none t [])) k
-    kept-along t (onward {a = a} {m = m} {b = b} {d = d} {c = c} {r = r} {cs = cs} {rs = rs} is fit does hd q) k =
-        subst (λ u. Kept h pairs u b) (sym (tally-more t c r cs rs)) (kept-along (feed t c r) q (kept-next t a.phase a.owed c r m does fit (bounded-in a.phase d is) k))
+    kept-along t (onward {a = a} {m = m} {b = b} {d = d} {c = c} {r = r} {cs = cs} {rs = rs} s q) k =
+        subst (λ u. Kept h pairs u b) (sym (tally-more t c r cs rs)) (kept-along (feed t c r) q (kept-next t a.phase a.owed c r m s.does s.fit (bounded-in a.phase d s.means-it) k))
 
     module _ {a b : Moment} {d e : D} {cs : List Order} {rs : List Reply} (start : Kept h pairs fresh a) (none : Owes None a.phase a.owed) (q : Path makes means h most a d cs rs b e) where
       kept : Kept h pairs (tally cs rs) b

@@ -1,6 +1,5 @@
 -- The law of survival: what stands of a depository, and what its next open is answered, wherever calls have led it from a format.
-use Rattle.std.specs.Prelude.{◌≡◌, ℕ, ◌+◌, ◌*◌, ◌≤◌, true, false, ◌⊎◌, List, Some, None, Ok, Err, Option, Result}
-use Rattle.answers.specs.declared.Refusal.{Refusal}
+use Rattle.std.specs.Prelude.{◌≡◌, ℕ, ◌+◌, ◌*◌, ◌≤◌, true, false, ◌⊎◌, List, Some, None, Ok, Err, Option}
 use Rattle.answers.specs.declared.Fault.{Fault}
 use Rattle.answers.specs.Numbers.{number_of}
 use Rattle.instruction.specs.declared.Instruction.{Instruction}
@@ -47,12 +46,14 @@ pub record Stands (h : Rulebook) (xs : List Instruction) (v : View) : Type 0 whe
   pub runs : Runs h xs v.standing
   pub said : SaidBy xs v.standing
 
--- What an open that gave the engine v says of slips, where the last closing before it that was not unknown told this, if any.
-pub record Judged (told : Option Contents) (presented : Option (Result Verdict Refusal)) (v : View) : Type 0 where
-  pub none : told ≡ None → presented ≡ None
-  -- that slip is judged by the count and the last of the entries found
-  pub judged : (c : Contents) → told ≡ Some c → (w : Verdict) × (presented ≡ Some (Ok w)) × Judges (Some c) v.found v.last w
-  pub upheld : (w : Verdict) → presented ≡ Some (Ok w) → (verdict_number w ≡ 0) ⊎ (verdict_number w ≡ 1)
+-- What an open answered o, which gave the engine v, says of the last closing before it that was not unknown. That told this, if
+-- there was one.
+pub record Judged (told : Option Contents) (o : Opened) (v : View) : Type 0 where
+  pub none : told ≡ None → o.presented ≡ None
+  -- that slip is judged by the count of the entries found and the last of them
+  pub judged : (c : Contents) → told ≡ Some c
+      → (w : Verdict) × (o.presented ≡ Some (Ok w)) × Judges (Some c) o.found v.last w
+  pub upheld : (w : Verdict) → o.presented ≡ Some (Ok w) → (verdict_number w ≡ 0) ⊎ (verdict_number w ≡ 1)
 
 -- an open was answered 0
 abbrev pub OpenedWell : Reply → Type 0
@@ -71,7 +72,8 @@ module _ (h : Rulebook) (most pairs : ℕ) where
         → (r : Reply) (z : Moment) → Does h most b to_open r z → OpenedWell r
     -- and after one that is answered 0 the verdict on that closing's slip, if there is one, is 0 or 1
     pub verdict : (r : Reply) (z : Moment) → Does h most b to_open r z
-        → (o : Opened) (v : View) → r ≡ OpenedReply o → o.answer ≡ Ok tt → z.phase ≡ running v → Judged told o.presented v
+        → (o : Opened) (v : View) → r ≡ OpenedReply o → o.answer ≡ Ok tt → z.phase ≡ running v
+        → Judged told o v
 
   -- What holds there beyond the promise.
   pub record Beyond (cs : List Order) (rs : List Reply) (b : Moment) : Type 0 where

@@ -127,7 +127,7 @@ module _ (h : Rulebook) (most : ℕ) where
     path : Path makes means h most moment device cs replies b e
 
   next : {D : Type 0} {makes : D → DeviceCall → D → Type 0} {means : D → Medium} {a b : Moment} {d e : D} {c : Order} {cs : List Order} {rs : List Reply} → Path makes means h most a d (c ∷ cs) rs b e → Next makes means a d c cs rs b e
-  next (onward {m = m} {e = e} {r = r} {rs = rs} is fit does hd q) = record { moment = m; device = e; reply = r; replies = rs; is = refl; does = does; path = q }
+  next (onward {m = m} {e = e} {r = r} {rs = rs} s q) = record { moment = m; device = e; reply = r; replies = rs; is = refl; does = s.does; path = q }
 
   module _ {D : Type 0} (makes : D → DeviceCall → D → Type 0) (means : D → Medium) where
     whole-lines : (qs : List (Result Request Refusal)) (rs : List Reply) (a : Moment) (d : D) (b : Moment) (e : D) → Path makes means h most a d (flat_map orders_of qs) rs b e → Ready a → AllByRecursion Whole (answers_for qs rs)
