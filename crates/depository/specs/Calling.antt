@@ -1,4 +1,5 @@
--- What each call of a depository answers and where it leads, by the engine's and the device's own relations.
+-- What each call of a depository answers and where it leads, by the relations of the engine and of
+-- the device.
 use Rattle.std.specs.Prelude.{◌≡◌, ℕ, Some, None, Ok, Err, Option, Result}
 use Rattle.answers.specs.declared.Refusal.{Refusal}
 use Rattle.answers.specs.Numbers.{numbered}
@@ -36,20 +37,23 @@ pub record Leads (r r₀ : Reply) (b b₀ : Moment) : Type 0 where
   pub leads : b ≡ b₀
 
 -- an instruction, as the engine says
-pub record Instructs (h : Rulebook) (x : Instruction) (v : View) (l : Option Contents) (r : Reply) (b : Moment) : Type 0 where
+pub record Instructs (h : Rulebook) (x : Instruction) (v : View) (l : Option Contents) (r : Reply)
+    (b : Moment) : Type 0 where
   pub answered : Answer
   pub after : View
   pub engine : InstructedEngine h x v after answered
   pub leads : Leads r (Instructed answered) b (at (running after) l)
 
 -- a restart, as the device says; the books stay
-pub record Restarts (q most : ℕ) (m : Medium) (books : Side → Holdings) (l : Option Contents) (r : Reply) (b : Moment) : Type 0 where
+pub record Restarts (q most : ℕ) (m : Medium) (books : Side → Holdings) (l : Option Contents)
+    (r : Reply) (b : Moment) : Type 0 where
   pub after : Medium
   pub device : Restart m after q most
   pub leads : Leads r Done b (at (shut after books) l)
 
 -- what the slip that is owed, if any, answers when it is presented to an engine
-abbrev pub slip_answer : Mode → ℕ → Option Instruction → Option Contents → Option (Result Verdict Refusal)
+abbrev pub slip_answer : Mode → ℕ → Option Instruction → Option Contents
+    → Option (Result Verdict Refusal)
 slip_answer m n last None = None
 slip_answer Open n last (Some c) = Some (Ok (judged (Some c) n last))
 slip_answer (Down x) n last (Some c) = Some (Ok (judged (Some c) n last))
@@ -62,7 +66,11 @@ owed_after (Down x) l = None
 owed_after (Refused f) l = l
 
 abbrev pub opened_reply : View → Option Contents → Reply
-opened_reply v l = OpenedReply (record { answer = opening_answer v.mode; found = v.found; presented = slip_answer v.mode v.found v.last l })
+opened_reply v l = OpenedReply (record {
+  answer = opening_answer v.mode;
+  found = v.found;
+  presented = slip_answer v.mode v.found v.last l;
+})
 
 -- where an opening leads
 abbrev pub opened_moment : View → Option Contents → Moment
@@ -74,8 +82,10 @@ fact f (Ok x) = Ok (f x)
 fact f (Err r) = Err r
 
 abbrev pub told : Rulebook → View → Question → Result Fact Refusal
-told h v (Securities a i) = fact HoldingFact (if_answering v.mode (holding_question h v.standing securities a i))
-told h v (Money a i) = fact HoldingFact (if_answering v.mode (holding_question h v.standing cash a i))
+told h v (Securities a i) =
+    fact HoldingFact (if_answering v.mode (holding_question h v.standing securities a i))
+told h v (Money a i) =
+    fact HoldingFact (if_answering v.mode (holding_question h v.standing cash a i))
 told h v (TradeState t) = fact StateFact (if_answering v.mode (state_question v.standing.state t))
 told h v Entries = fact EntriesFact (if_answering v.mode (Ok v.count))
 

@@ -17,7 +17,8 @@ medium_in (running v) = v.medium
 medium_in (shut m books) = m
 
 -- where the device is
-abbrev pub device_of : {D R C : Type 0} {d : device.Ghosts D} {r : book.Ghosts R} {c : book.Ghosts C} → Condition D R C d r c → D
+abbrev pub device_of : {D R C : Type 0}
+    {d : device.Ghosts D} {r : book.Ghosts R} {c : book.Ghosts C} → Condition D R C d r c → D
 device_of (Running e) = e.device
 device_of (Shut device register cash) = device
 

@@ -1,4 +1,5 @@
--- The law of survival: what stands of a depository, and what its next open is answered, wherever calls have led it from a format.
+-- The law of survival: what stands of a depository, and what its next open is answered, wherever
+-- calls have led it from a format on.
 use Rattle.std.specs.Prelude.{◌≡◌, ℕ, ◌+◌, ◌*◌, ◌≤◌, true, false, ◌⊎◌, List, Some, None, Ok, Err, Option}
 use Rattle.answers.specs.declared.Fault.{Fault}
 use Rattle.answers.specs.Numbers.{number_of}
@@ -37,40 +38,47 @@ use Rattle.depository.specs.Paths.{Path, last_closing}
 abbrev pub enough_to_open : ℕ
 enough_to_open = 65535
 
--- An engine has this list: it is what the records of its entries say, and the rules accept it, one instruction after another, and
--- lead by it to the books and the trades. Each trade's state and terms are those that the list says. For each account and item, free
--- and blocked together are its credits and what it received, less what it gave; and what is blocked is what its open trades hold.
+-- An engine has this list: it is what the records of its entries say, and the rules accept it, one
+-- instruction after another, and lead by it to the books and the trades. Each trade's state and
+-- terms are those that the list says. For each account and item, free and blocked together are its
+-- credits and what it received, less what it gave; and what is blocked is what its open trades
+-- hold.
 pub record Stands (h : Rulebook) (xs : List Instruction) (v : View) : Type 0 where
-  -- no record here is one that says nothing: the rules would not accept what is listed in its place
+  -- no record here is one that says nothing: the rules would not accept what is listed for it
   pub list : listed v.medium v.count ≡ xs
   pub runs : Runs h xs v.standing
   pub said : SaidBy xs v.standing
 
--- What an open answered o, which gave the engine v, says of the last closing before it that was not unknown. That told this, if
--- there was one.
+-- What an open answered o, which gave the engine v, says of the last closing before it that was not
+-- unknown. That closing told this, if there was one.
 pub record Judged (told : Option Contents) (o : Opened) (v : View) : Type 0 where
   pub none : told ≡ None → o.presented ≡ None
-  -- that slip is judged by the count of the entries found and the last of them
+  -- its slip is judged by the count of the entries found and the last of them
   pub judged : (c : Contents) → told ≡ Some c
       → (w : Verdict) × (o.presented ≡ Some (Ok w)) × Judges (Some c) o.found v.last w
-  pub upheld : (w : Verdict) → o.presented ≡ Some (Ok w) → (verdict_number w ≡ 0) ⊎ (verdict_number w ≡ 1)
+  pub upheld : (w : Verdict) → o.presented ≡ Some (Ok w)
+      → (verdict_number w ≡ 0) ⊎ (verdict_number w ≡ 1)
 
 -- an open was answered 0
 abbrev pub OpenedWell : Reply → Type 0
 OpenedWell r = (o : Opened) × (r ≡ OpenedReply o) × (o.answer ≡ Ok tt)
 
 module _ (h : Rulebook) (most pairs : ℕ) where
-  -- The law, where calls with their answers have led from a format to the moment b, and the last closing among them that was not
-  -- unknown told this: by the tally of just these calls and answers.
-  pub record Law (cs : List Order) (rs : List Reply) (told : Option Contents) (b : Moment) : Type 0 where
+  -- The law, where the calls cs, answered rs, have led from a format to the moment b, and the last
+  -- closing among them that was not unknown told this. It is said by the tally of just these calls
+  -- and answers.
+  pub record Law (cs : List Order) (rs : List Reply) (told : Option Contents) (b : Moment)
+      : Type 0 where
     -- on every engine that is open or down the tally stands, and the device keeps it
-    pub stands : (v : View) → b.phase ≡ running v → opening_answer v.mode ≡ Ok tt → Stands h (tally cs rs).list v
+    pub stands : (v : View) → b.phase ≡ running v → opening_answer v.mode ≡ Ok tt
+        → Stands h (tally cs rs).list v
     pub keeps : (v : View) → b.phase ≡ running v → opening_answer v.mode ≡ Ok tt
         → Journal (written_by h pairs) v.medium (tally cs rs).list (tally cs rs).hand
     -- an open that comes next, of a device with calls enough, is answered 0
-    pub prompt : (m : Medium) (books : Side → Holdings) → b.phase ≡ shut m books → enough_to_open ≤ m.left
+    pub prompt : (m : Medium) (books : Side → Holdings) → b.phase ≡ shut m books
+        → enough_to_open ≤ m.left
         → (r : Reply) (z : Moment) → Does h most b to_open r z → OpenedWell r
-    -- and after one that is answered 0 the verdict on that closing's slip, if there is one, is 0 or 1
+    -- and after one that is answered 0, the verdict on that closing's slip, if any, is 0 or 1
     pub verdict : (r : Reply) (z : Moment) → Does h most b to_open r z
         → (o : Opened) (v : View) → r ≡ OpenedReply o → o.answer ≡ Ok tt → z.phase ≡ running v
         → Judged told o v
@@ -78,15 +86,18 @@ module _ (h : Rulebook) (most pairs : ℕ) where
   -- What holds there beyond the promise.
   pub record Beyond (cs : List Order) (rs : List Reply) (b : Moment) : Type 0 where
     -- the calls that reading a journal of so many pairs takes at most are enough
-    pub prompt : (m : Medium) (books : Side → Holdings) → b.phase ≡ shut m books → 1 + 2 * pairs ≤ m.left
+    pub prompt : (m : Medium) (books : Side → Holdings) → b.phase ≡ shut m books
+        → 1 + 2 * pairs ≤ m.left
         → (r : Reply) (z : Moment) → Does h most b to_open r z → OpenedWell r
     -- an open is refused for want of calls only
     pub refused : (r : Reply) (z : Moment) → Does h most b to_open r z
         → (o : Opened) (f : Fault) → r ≡ OpenedReply o → o.answer ≡ Err f → number_of f.refusal ≡ 13
     -- the device keeps the tally, and what is in hand, also while no engine runs
-    pub keeps : Journal (written_by h pairs) (medium_in b.phase) (tally cs rs).list (tally cs rs).hand
+    pub keeps : Journal (written_by h pairs) (medium_in b.phase)
+        (tally cs rs).list (tally cs rs).hand
 
-module _ {D : Type 0} (makes : D → DeviceCall → D → Type 0) (means : D → Medium) (h : Rulebook) where
+module _ {D : Type 0} (makes : D → DeviceCall → D → Type 0) (means : D → Medium)
+    (h : Rulebook) where
   -- what a format answered r leaves of the device d
   pub record AfterFormat (pairs : ℕ) (d : D) (r : Answer) (e : D) : Type 0 where
     pub format : format_answer pairs (means d) ≡ r
@@ -95,26 +106,34 @@ module _ {D : Type 0} (makes : D → DeviceCall → D → Type 0) (means : D →
     -- else its calls were made, up to the first that found none left
     pub after : no_room pairs (means d).size ≡ false
         → Formatted (header_bytes (header_for h pairs)) pairs (means d) (means e)
-    pub trace : Traced makes (format_calls (header_bytes (header_for h pairs)) pairs (means d).size (means d).left) d e
+    pub trace : Traced makes
+        (format_calls (header_bytes (header_for h pairs)) pairs (means d).size (means d).left) d e
 
-  -- A format of d with so many pairs was answered 0, and from there these calls with their answers led to b and e.
-  pub record Run (most pairs : ℕ) (d : D) (books : Side → Holdings) (cs : List Order) (rs : List Reply) (b : Moment) (e : D) : Type 0 where
-    pub device : D
-    pub formatted : AfterFormat pairs d (Ok tt) device
-    pub path : Path makes means h most (at (shut (means device) books) None) device cs rs b e
+  module _ (most pairs : ℕ) (d : D) (books : Side → Holdings) where
+    -- A format of d with so many pairs was answered 0, and from there the calls cs, answered rs,
+    -- led to the moment b and the device e.
+    pub record Run (cs : List Order) (rs : List Reply) (b : Moment) (e : D) : Type 0 where
+      pub device : D
+      pub formatted : AfterFormat pairs d (Ok tt) device
+      pub path : Path makes means h most (at (shut (means device) books) None) device cs rs b e
 
-  -- The whole law, where a depository of the device d, and of books that hold these amounts, was given calls from its format on.
-  pub record Survives (most pairs : ℕ) (d : D) (books : Side → Holdings) (cs : List Order) (rs : List Reply) (b : Moment) (e : D) : Type 0 where
-    -- what was done
-    pub run : Run most pairs d books cs rs b e
-    -- and what holds of every run, whatever the calls and the answers
-    pub law : (cs : List Order) (rs : List Reply) (b : Moment) (e : D) (run : Run most pairs d books cs rs b e)
-        → Law h most pairs cs rs (last_closing run.path) b
-    pub beyond : (cs : List Order) (rs : List Reply) (b : Moment) (e : D) → Run most pairs d books cs rs b e → Beyond h most pairs cs rs b
-    -- what a list of instructions says of a trade's state and terms is what its last instruction and its last Enter say
-    pub words : LastWords
+    -- The whole law, where a depository of the device d, and of books that hold these amounts, was
+    -- given the calls cs from its format on.
+    pub record Survives (cs : List Order) (rs : List Reply) (b : Moment) (e : D) : Type 0 where
+      -- what was done
+      pub run : Run cs rs b e
+      -- and what holds of every run of such a depository, whatever the calls and the answers
+      pub law : (cs : List Order) (rs : List Reply) (b : Moment) (e : D) (run : Run cs rs b e)
+          → Law h most pairs cs rs (last_closing run.path) b
+      pub beyond : (cs : List Order) (rs : List Reply) (b : Moment) (e : D)
+          → Run cs rs b e → Beyond h most pairs cs rs b
+      -- what a list of instructions says of a trade's state and terms is what its last instruction
+      -- and its last Enter say
+      pub words : LastWords
 
-  -- No calls were given: the format was refused, or no memory was found for the answers, and nothing was done.
+  -- No calls were given, and the depository is as it was made: the format was refused; or there was
+  -- no room for the answers, and nothing was done.
   abbrev pub Stopped : ℕ → D → (Side → Holdings) → Stop → Moment → D → Type 0
-  Stopped pairs d books (Refused f) b e = AfterFormat pairs d (Err f) e × (b ≡ at (shut (means e) books) None)
+  Stopped pairs d books (Refused f) b e =
+      AfterFormat pairs d (Err f) e × (b ≡ at (shut (means e) books) None)
   Stopped pairs d books (NoMemory x) b e = (e ≡ d) × (b ≡ at (shut (means d) books) None)

@@ -14,18 +14,22 @@ use Rattle.depository.specs.Moments.{Phase, running, Moment}
 use Rattle.depository.specs.Calling.{Does}
 use Rattle.depository.specs.Handling.{medium_in, Handled}
 
--- A call c, answered r, leads from the moment a and the device d to the moment b and the device e.
-pub record Step {D : Type 0} (makes : D → DeviceCall → D → Type 0) (means : D → Medium) (h : Rulebook) (most : ℕ) (a : Moment) (d : D) (c : Order) (r : Reply) (b : Moment) (e : D) : Type 0 where
-  -- the device means what the moment says
-  pub means-it : means d ≡ medium_in a.phase
-  -- an instruction's numbers are no wider than its fields
-  pub fit : (x : Instruction) → c ≡ to_instruct x → Fit x
-  -- the answer and the moment are those of the engine's and the device's own contracts, and so is the device
-  pub does : Does h most a c r b
-  pub handled : Handled makes h a.phase c d e
+module _ {D : Type 0} (makes : D → DeviceCall → D → Type 0) (means : D → Medium)
+    (h : Rulebook) (most : ℕ) where
+  -- A call c, answered r, leads from the moment a and the device d to b and e.
+  pub record Step (a : Moment) (d : D) (c : Order) (r : Reply) (b : Moment) (e : D) : Type 0 where
+    -- the device means what the moment says
+    pub means-it : means d ≡ medium_in a.phase
+    -- an instruction's numbers are no wider than its fields
+    pub fit : (x : Instruction) → c ≡ to_instruct x → Fit x
+    -- the answer, and where it leads, are what the engine's and the device's own contracts say
+    pub does : Does h most a c r b
+    pub handled : Handled makes h a.phase c d e
 
 -- The calls cs, answered rs, lead one after another from the moment a and the device d to b and e.
-pub data Path {D : Type 0} (makes : D → DeviceCall → D → Type 0) (means : D → Medium) (h : Rulebook) (most : ℕ) : Moment → D → List Order → List Reply → Moment → D → Type 0 where
+pub data Path {D : Type 0} (makes : D → DeviceCall → D → Type 0) (means : D → Medium)
+    (h : Rulebook) (most : ℕ)
+    : Moment → D → List Order → List Reply → Moment → D → Type 0 where
   done : {a : Moment} {d : D} → means d ≡ medium_in a.phase → Path makes means h most a d [] [] a d
   onward : {a m b : Moment} {d e f : D} {c : Order} {r : Reply} {cs : List Order} {rs : List Reply}
       → Step makes means h most a d c r m e
@@ -37,8 +41,11 @@ abbrev pub closing_told : Phase → Order → Option Contents
 closing_told (running v) to_close = closing v
 closing_told a c = None
 
--- what the last closing told that was not unknown: one of the later calls', or else this one's
-unfoldable pub last_closing : {D : Type 0} {makes : D → DeviceCall → D → Type 0} {means : D → Medium} {h : Rulebook} {most : ℕ} {a b : Moment} {d e : D} {cs : List Order} {rs : List Reply} → Path makes means h most a d cs rs b e → Option Contents
-last_closing (done is) = None
-last_closing (onward {a = a} {c = c} step rest) =
-    option_or (last_closing rest) (closing_told a.phase c)
+module _ {D : Type 0} {makes : D → DeviceCall → D → Type 0} {means : D → Medium}
+    {h : Rulebook} {most : ℕ} where
+  -- what the last closing told that was not unknown: one of the later calls', or else this one's
+  unfoldable pub last_closing : {a b : Moment} {d e : D} {cs : List Order} {rs : List Reply}
+      → Path makes means h most a d cs rs b e → Option Contents
+  last_closing (done is) = None
+  last_closing (onward {a = a} {c = c} step rest) =
+      option_or (last_closing rest) (closing_told a.phase c)

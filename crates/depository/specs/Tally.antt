@@ -32,7 +32,9 @@ with_hand xs (Some x) = xs ++ (x ∷ [])
 abbrev pub fed_opening : Tally → Answer → Option (Result Verdict Refusal) → Tally
 fed_opening t (Err f) verdict = t
 fed_opening t (Ok u) (Some (Ok v)) =
-    record { list = (if verdict_number v == 1 then with_hand t.list t.hand else t.list); hand = None }
+    (if verdict_number v == 1
+    then record { list = with_hand t.list t.hand; hand = None }
+    else record { list = t.list; hand = None })
 fed_opening t (Ok u) verdict = record { list = t.list; hand = None }
 
 -- all else changes nothing

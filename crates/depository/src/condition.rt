@@ -12,7 +12,8 @@ pub enum Condition<D: PoweredDevice, R: Book, C: Book> {
     Shut(D, R, C),
 }
 
-// A depository owes the last closing slip that is not unknown, until an engine judges it. It cannot be forgotten while it owes one.
+// A depository owes the last closing slip that is not unknown, until an engine judges it. It cannot
+// be forgotten while it owes one.
 #[derive(Drop)]
 pub struct Depository<D: PoweredDevice, R: Book, C: Book> {
     pub(crate) condition: Condition<D, R, C>,

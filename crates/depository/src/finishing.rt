@@ -8,7 +8,7 @@ use device::PoweredDevice;
 use engine::Contents;
 
 impl<D: PoweredDevice, R: Book, C: Book> Depository<D, R, C> {
-    // Gives back what the depository consists of, and files the slip that it still owes, if there is one.
+    // Gives back what the depository consists of, and files the slip that it still owes, if any.
     pub fn finish(self) -> (Condition<D, R, C>, Option<Contents>)
         ensures condition { result.0 ≡ self.condition }
         ensures slip { result.1 ≡ owed_contents self.owed }

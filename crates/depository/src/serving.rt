@@ -20,7 +20,8 @@ impl<D: PoweredDevice, R: Book, C: Book> Depository<D, R, C> {
     // A depository that owes no slip.
     fn shut(device: D, register: R, cash: C) -> Self
         ensures moment { moment_of result
-            ≡ at (shut (D.Device.medium device) (by_side (R.holdings register) (C.holdings cash))) None }
+            ≡ at (shut (D.Device.medium device) (by_side (R.holdings register) (C.holdings cash)))
+            None }
         ensures device { device_of result.condition ≡ device }
     {
         Depository {
@@ -64,14 +65,15 @@ fn format_for<D: Device, R: Book, C: Book>(
     register: &R,
     cash: &C,
 ) -> Result<(), Fault>
-    ensures { AfterFormat D.makes D.medium (rulebook R.fixed C.fixed) pairs device.old result device.new }
+    ensures { AfterFormat D.makes D.medium (rulebook R.fixed C.fixed) pairs
+        device.old result device.new }
 {
     format(device, pairs, register.kind(), cash.kind())
 }
 
-// Formats a device for these books, and gives the depository the calls, one after another. It comes back whatever the answer,
-// and is finished by whoever called. The answers go into `replies`, which is emptied first; where it has room for them all, memory
-// cannot be wanting.
+// Formats a device for these books, and gives the depository the calls, one after another. It comes
+// back whatever the answer, and is finished by whoever called. The answers go into `replies`, which
+// is emptied first; where it has room for them all, memory cannot be wanting.
 pub fn serve<D: PoweredDevice, R: Book, C: Book>(
     mut device: D,
     pairs: u32,
@@ -84,9 +86,11 @@ pub fn serve<D: PoweredDevice, R: Book, C: Book>(
         let books = by_side (R.holdings register) (C.holdings cash) in
         let b = moment_of result.0 in let e = device_of result.0.condition in
         MatchResult result.1
-        (λ _. Survives D.makes means h D.PoweredDevice.most pairs device books (map order calls.now) replies.new.items b e)
+        (λ _. Survives D.makes means h D.PoweredDevice.most pairs device books
+        (map order calls.now) replies.new.items b e)
         (λ stop. Stopped D.makes means h pairs device books stop b e) }
-    ensures room { result.1 ≡ Err (NoMemory alloc_error) → vec_capacity replies.old < length calls.now }
+    ensures room { result.1 ≡ Err (NoMemory alloc_error)
+        → vec_capacity replies.old < length calls.now }
     ensures none { OnErr result.1 (replies.new.items ≡ []) }
     ensures lent { vec_capacity replies.old ≤ vec_capacity replies.new }
 {

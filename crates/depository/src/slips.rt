@@ -32,8 +32,10 @@ pub(crate) fn present<D: Device, R: Book, C: Book>(
     owed: Option<Slip>,
 ) -> (Option<Result<Verdict, Refusal>>, Option<Slip>)
     requires { Known owed }
-    ensures answer { let v = view D.medium engine.now in result.0 ≡ slip_answer v.mode v.found v.last (owed_contents owed) }
-    ensures owed { owed_contents result.1 ≡ owed_after (view D.medium engine.now).mode (owed_contents owed) }
+    ensures answer { let v = view D.medium engine.now in
+        result.0 ≡ slip_answer v.mode v.found v.last (owed_contents owed) }
+    ensures owed { owed_contents result.1
+        ≡ owed_after (view D.medium engine.now).mode (owed_contents owed) }
     ensures known { Known result.1 }
 {
     let Some(slip) = owed else {

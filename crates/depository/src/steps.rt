@@ -1,5 +1,5 @@
-// One call at a time. A depository moves from call to call: what it is made of moves into an engine and out again. A call that
-// does not fit leaves it as it is.
+// One call at a time. A depository moves from call to call: what it is made of moves into an engine
+// and out again. A call that does not fit leaves it as it is.
 ghost use Rattle.std.specs.Prelude.{◌≡◌};
 ghost use Rattle.instruction.specs.Layout.{Fit};
 ghost use Rattle.ledger.specs.View.{rulebook};
@@ -36,14 +36,15 @@ fn told<D: Device, R: Book, C: Book>(
 }
 
 impl<D: PoweredDevice, R: Book, C: Book> Depository<D, R, C> {
-    // In place, as a restart and a question: only what moves the device and the books takes the depository by value. That the instruction's
-    // fields fit is said too: a caller that took it from a call would not know it.
+    // In place, as a restart and a question: only what moves the device and the books takes the
+    // depository by value. That the instruction's fields fit is said too: a caller that took it
+    // from a call would not know it.
     pub(crate) fn instruct(&mut self, x: Instruction) -> Reply
         ensures fit { Fit x }
         ensures does { Does (rulebook R.fixed C.fixed) D.PoweredDevice.most
             (moment_of self.old) (to_instruct x) result (moment_of self.new) }
-        ensures device { Handled D.makes (rulebook R.fixed C.fixed) (moment_of self.old).phase (to_instruct x)
-            (device_of self.old.condition) (device_of self.new.condition) }
+        ensures device { Handled D.makes (rulebook R.fixed C.fixed) (moment_of self.old).phase
+            (to_instruct x) (device_of self.old.condition) (device_of self.new.condition) }
     {
         match &mut self.condition {
             Condition::Running(engine) => Reply::Instructed(engine.instruct(&x)),
@@ -72,7 +73,8 @@ impl<D: PoweredDevice, R: Book, C: Book> Depository<D, R, C> {
     pub(crate) fn restart(&mut self, calls: u32, remains: &[u8]) -> Reply
         ensures does { Does (rulebook R.fixed C.fixed) D.PoweredDevice.most
             (moment_of self.old) (to_restart calls remains.now) result (moment_of self.new) }
-        ensures device { Handled D.makes (rulebook R.fixed C.fixed) (moment_of self.old).phase (to_restart calls remains.now)
+        ensures device { Handled D.makes (rulebook R.fixed C.fixed) (moment_of self.old).phase
+            (to_restart calls remains.now)
             (device_of self.old.condition) (device_of self.new.condition) }
     {
         match &mut self.condition {
@@ -125,8 +127,8 @@ impl<D: PoweredDevice, R: Book, C: Book> Depository<D, R, C> {
         ensures fit { (x : Instruction) → order call.now ≡ to_instruct x → Fit x }
         ensures does { Does (rulebook R.fixed C.fixed) D.PoweredDevice.most
             (moment_of self) (order call.now) result.1 (moment_of result.0) }
-        ensures device { Handled D.makes (rulebook R.fixed C.fixed) (moment_of self).phase (order call.now)
-            (device_of self.condition) (device_of result.0.condition) }
+        ensures device { Handled D.makes (rulebook R.fixed C.fixed) (moment_of self).phase
+            (order call.now) (device_of self.condition) (device_of result.0.condition) }
     {
         match call {
             Call::Instruct(x) => {

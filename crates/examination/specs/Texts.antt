@@ -1,4 +1,4 @@
--- The key as text. Assumes nothing.
+-- The key as text.
 use Rattle.std.specs.Prelude.{ℕ, ◌+◌, List, [], ◌∷◌, ◌++◌, Some, None, Ok, Err, Option, Result, decimal}
 use Rattle.answers.specs.declared.Refusal.{Refusal}
 use Rattle.answers.specs.Numbers.{number_of, answer_number}
@@ -17,12 +17,15 @@ abbrev pub presented_then : Option (Result Verdict Refusal) → List ℕ → Lis
 presented_then (Some p) rest = decimal (presented_number p) ++ rest
 presented_then None rest = 45 ∷ rest
 
--- An answer, and what is written after it: 0, with free and blocked after a question, or the refusal's number. After a cut, what
--- the opening was answered, the count found, and what the slip was. A dash is for what no line asks.
+-- An answer, and what is written after it: 0, with free and blocked after a question, or the
+-- refusal's number. After a cut, what the opening was answered, the count found, and what the slip
+-- was. A dash is for what no line asks.
 abbrev pub answer_then : Answer → List ℕ → List ℕ
 answer_then Accepted rest = 48 ∷ rest
 answer_then (Amounts f) rest = 48 ∷ 32 ∷ (decimal f.free ++ (32 ∷ (decimal f.blocked ++ rest)))
-answer_then (Reopened o) rest = decimal (answer_number o.answer) ++ (32 ∷ (decimal o.found ++ (32 ∷ presented_then o.presented rest)))
+answer_then (Reopened o) rest =
+    decimal (answer_number o.answer)
+    ++ (32 ∷ (decimal o.found ++ (32 ∷ presented_then o.presented rest)))
 answer_then (Refused r) rest = decimal (number_of r) ++ rest
 answer_then Unasked rest = 45 ∷ rest
 

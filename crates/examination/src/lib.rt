@@ -25,8 +25,8 @@ use std::alloc::Global;
 // The most bytes that a script may have.
 const LONGEST: usize = 65536;
 
-// Formats a device for these books and gives the depository the calls, for whose replies there is room. Whatever it owes in the
-// end is filed.
+// Formats a device for these books and gives the depository the calls, for whose replies there is
+// room. Whatever it owes in the end is filed.
 fn replies_to<D: PoweredDevice + Drop, R: Book + Drop, C: Book + Drop>(
     device: D,
     pairs: u32,
@@ -38,7 +38,8 @@ fn replies_to<D: PoweredDevice + Drop, R: Book + Drop, C: Book + Drop>(
     requires room { length calls.now ≤ vec_capacity replies.old }
     ensures { let means = D.Device.medium in let books = by_side (R.holdings register) (C.holdings cash) in
         MatchResult result
-        (λ _. Replied D.makes means (rulebook R.fixed C.fixed) D.PoweredDevice.most pairs device books (map order calls.now) replies.new.items)
+        (λ _. Replied D.makes means (rulebook R.fixed C.fixed) D.PoweredDevice.most pairs device books
+        (map order calls.now) replies.new.items)
         (λ fault. format_answer pairs (means device) ≡ Err fault) }
 {
     let (depository, served) = serve(device, pairs, register, cash, calls, replies);
@@ -50,7 +51,8 @@ fn replies_to<D: PoweredDevice + Drop, R: Book + Drop, C: Book + Drop>(
     }
 }
 
-// Gives a script to a depository over this device and these books, and makes an answer to each line of what it replies.
+// Gives a script to a depository over this device and these books, and makes an answer to each line
+// of what it replies. Memory is asked for before any call is given.
 pub fn answer_script<D: PoweredDevice + Drop, R: Book + Drop, C: Book + Drop>(
     heap: Global,
     device: D,
@@ -71,7 +73,14 @@ pub fn answer_script<D: PoweredDevice + Drop, R: Book + Drop, C: Book + Drop>(
     let calls = calls_for(heap, requests.as_slice())?;
     let mut replies = Vec::with_capacity(heap, calls.len())?;
     let mut answers = Vec::with_capacity(heap, requests.len())?;
-    let served = replies_to(device, pairs, register, cash, calls.as_slice(), &mut replies);
+    let served = replies_to(
+        device,
+        pairs,
+        register,
+        cash,
+        calls.as_slice(),
+        &mut replies,
+    );
     if let Err(fault) = served {
         return Err(Stop::Refused(fault));
     }

@@ -20,10 +20,13 @@ pub(crate) fn read_requests(heap: Global, script: &[u8]) -> Result<Vec<Read>, Al
     Lines::new(script).map(|line| read_line(line)).collect(heap)
 }
 
-// Adds the calls of a line, which keep to its remains. Where there is room for them, memory cannot be wanting.
+// Adds the calls of a line, which keep to its remains. Where there is room for them, memory cannot be
+// wanting.
 fn add_calls<'a>(calls: &mut Vec<Call<'a>>, request: &'a Read) -> Result<(), AllocError>
-    ensures added { OnOk result (map order calls.new.items ≡ map order calls.old.items ++ orders_of request.now) }
-    ensures room { OnErr result (vec_capacity calls.old < vec_len calls.old + length (orders_of request.now)) }
+    ensures added { OnOk result
+        (map order calls.new.items ≡ map order calls.old.items ++ orders_of request.now) }
+    ensures room { OnErr result
+        (vec_capacity calls.old < vec_len calls.old + length (orders_of request.now)) }
 {
     match request {
         Ok(Request::Instruct(x)) => calls.push(Call::Instruct(*x))?,
