@@ -1,7 +1,8 @@
 -- A close, a restart and an opening leave what the tally says.
-use Rattle.std.proofs.Common.{◌≡◌, ℕ, ◌+◌, ◌*◌, ◌<◌, ◌≤◌, true, false, eqb, List, [], ◌∷◌, ◌++◌, length, Some, None, Ok, Err, Option, ◌⊎◌, sym, refl, ap, ◌∙◌, subst, inl, inr, arith}
+use Rattle.std.proofs.Common.{◌≡◌, ℕ, ◌+◌, ◌*◌, ◌<◌, ◌≤◌, true, false, eqb, List, [], ◌∷◌, ◌++◌, length, Some, None, Ok, Err, Option, Result, ◌⊎◌, sym, refl, ap, ◌∙◌, subst, inl, inr, arith}
 use Rattle.std.proofs.lemmas.List.{length_push}
 use Rattle.std.proofs.lemmas.Bool.{eq-eqb, ne_eqb, cond-true, cond-false}
+use Rattle.answers.specs.declared.Refusal.{Refusal}
 use Rattle.answers.specs.declared.Fault.{Fault}
 use Rattle.answers.specs.Numbers.{number_of}
 use Rattle.instruction.specs.declared.Instruction.{Instruction}
@@ -15,7 +16,7 @@ use Rattle.engine.specs.declared.engine.Mode.TheVariants.{Open, Down, Refused}
 use Rattle.engine.specs.declared.slip.Contents.{Contents}
 use Rattle.engine.specs.declared.slip.Verdict.{Verdict}
 use Rattle.engine.specs.declared.slip.Verdict.TheVariants.{Same, Stands}
-use Rattle.engine.specs.Slips.{same_fields, judged, Judges, number_of as verdict_number}
+use Rattle.engine.specs.Slips.{same_fields, judged, Judges, presented_number}
 use Rattle.engine.specs.View.{View}
 use Rattle.engine.specs.Asking.{opening_answer, told_by}
 use Rattle.engine.specs.Opening.{opened, last_of}
@@ -82,11 +83,14 @@ module _ (h : Rulebook) (pairs : ℕ) (t : Tally) where
   none-judged : (v : View) → Judged None (answered Open v None) v
   none-judged v = record { none = λ e. refl; judged = λ c e. absurd (nothing-is-some e); upheld = λ w e. absurd (nothing-is-some e) }
 
-  is-judged : (c : Contents) (v : View) (w : Verdict) → judged (Some c) v.found v.last ≡ w → Judges (Some c) v.found v.last w → (verdict_number w ≡ 0) ⊎ (verdict_number w ≡ 1) → Judged (Some c) (answered Open v (Some c)) v
+  abbrev IsUpheld : Result Verdict Refusal → Type 0
+  IsUpheld p = (presented_number p ≡ 0) ⊎ (presented_number p ≡ 1)
+
+  is-judged : (c : Contents) (v : View) (w : Verdict) → judged (Some c) v.found v.last ≡ w → Judges (Some c) v.found v.last w → IsUpheld (Ok w) → Judged (Some c) (answered Open v (Some c)) v
   is-judged c v w e j up = record {
     none = λ e. absurd (nothing-is-some (sym e));
     judged = λ b same. let q : c ≡ b = cc in (w, ap (λ u. Some (Ok u)) e, subst (λ u. Judges (Some u) v.found v.last w) q j);
-    upheld = λ u same. let q : w ≡ u = cc in subst (λ u. (verdict_number u ≡ 0) ⊎ (verdict_number u ≡ 1)) q up;
+    upheld = λ p same. let q : Ok w ≡ p = cc (e, same) in subst IsUpheld q up;
   }
 
   abbrev feeds : Verdict → Tally

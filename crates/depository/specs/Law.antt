@@ -1,6 +1,7 @@
 -- The law of survival: what stands of a depository, and what its next open is answered, wherever
 -- calls have led it from a format on.
-use Rattle.std.specs.Prelude.{◌≡◌, ℕ, ◌+◌, ◌*◌, ◌≤◌, true, false, ◌⊎◌, List, Some, None, Ok, Err, Option}
+use Rattle.std.specs.Prelude.{◌≡◌, ℕ, ◌+◌, ◌*◌, ◌≤◌, true, false, ◌⊎◌, List, Some, None, Ok, Err, Option, Result}
+use Rattle.answers.specs.declared.Refusal.{Refusal}
 use Rattle.answers.specs.declared.Fault.{Fault}
 use Rattle.answers.specs.Numbers.{number_of}
 use Rattle.instruction.specs.declared.Instruction.{Instruction}
@@ -17,7 +18,7 @@ use Rattle.journal.specs.Journal.{Journal}
 use Rattle.journal.specs.Format.{no_room, format_answer, Formatted, format_calls}
 use Rattle.engine.specs.declared.slip.Contents.{Contents}
 use Rattle.engine.specs.declared.slip.Verdict.{Verdict}
-use Rattle.engine.specs.Slips.{Judges, number_of as verdict_number}
+use Rattle.engine.specs.Slips.{Judges, presented_number}
 use Rattle.engine.specs.View.{View}
 use Rattle.engine.specs.Asking.{opening_answer}
 use Rattle.engine.specs.Lasting.{listed, written_by}
@@ -56,8 +57,8 @@ pub record Judged (told : Option Contents) (o : Opened) (v : View) : Type 0 wher
   -- its slip is judged by the count of the entries found and the last of them
   pub judged : (c : Contents) → told ≡ Some c
       → (w : Verdict) × (o.presented ≡ Some (Ok w)) × Judges (Some c) o.found v.last w
-  pub upheld : (w : Verdict) → o.presented ≡ Some (Ok w)
-      → (verdict_number w ≡ 0) ⊎ (verdict_number w ≡ 1)
+  pub upheld : (p : Result Verdict Refusal) → o.presented ≡ Some p
+      → (presented_number p ≡ 0) ⊎ (presented_number p ≡ 1)
 
 -- an open was answered 0
 abbrev pub OpenedWell : Reply → Type 0

@@ -5,7 +5,7 @@ use Rattle.answers.specs.Numbers.{number_of}
 use Rattle.instruction.specs.declared.Instruction.{Instruction}
 use Rattle.device.specs.Calls.{Answer}
 use Rattle.engine.specs.declared.slip.Verdict.{Verdict}
-use Rattle.engine.specs.Slips.{number_of as verdict_number}
+use Rattle.engine.specs.Slips.{presented_number}
 use Rattle.depository.specs.Orders.{Order, to_instruct, to_open}
 use Rattle.depository.specs.declared.calls.Reply.{Reply}
 use Rattle.depository.specs.declared.calls.Reply.TheVariants.{Instructed, Opened}
@@ -31,11 +31,11 @@ with_hand xs (Some x) = xs ++ (x ∷ [])
 -- an open answered 0 takes what is in hand where the verdict is 1, and ends with nothing in hand
 abbrev pub fed_opening : Tally → Answer → Option (Result Verdict Refusal) → Tally
 fed_opening t (Err f) verdict = t
-fed_opening t (Ok u) (Some (Ok v)) =
-    (if verdict_number v == 1
+fed_opening t (Ok u) None = record { list = t.list; hand = None }
+fed_opening t (Ok u) (Some verdict) =
+    (if presented_number verdict == 1
     then record { list = with_hand t.list t.hand; hand = None }
     else record { list = t.list; hand = None })
-fed_opening t (Ok u) verdict = record { list = t.list; hand = None }
 
 -- all else changes nothing
 abbrev pub feed : Tally → Order → Reply → Tally

@@ -1,18 +1,13 @@
 -- The key as text.
-use Rattle.std.specs.Prelude.{ℕ, ◌+◌, List, [], ◌∷◌, ◌++◌, Some, None, Ok, Err, Option, Result, decimal}
+use Rattle.std.specs.Prelude.{ℕ, ◌+◌, List, [], ◌∷◌, ◌++◌, Some, None, Option, Result, decimal}
 use Rattle.answers.specs.declared.Refusal.{Refusal}
 use Rattle.answers.specs.Numbers.{number_of, answer_number}
 use Rattle.engine.specs.declared.slip.Verdict.{Verdict}
-use Rattle.engine.specs.Slips.{number_of as verdict_number}
+use Rattle.engine.specs.Slips.{presented_number}
 use Rattle.examination.specs.declared.answer.Answer.{Answer}
 use Rattle.examination.specs.declared.answer.Answer.TheVariants.{Accepted, Amounts, Reopened, Refused, Unasked}
 
--- what a slip that is presented is answered: the verdict's number, or the refusal's
-abbrev pub presented_number : Result Verdict Refusal → ℕ
-presented_number (Ok v) = verdict_number v
-presented_number (Err r) = number_of r
-
--- the same, or a dash (45) where there is no slip
+-- what a slip that is presented is answered, or a dash (45) where there is no slip
 abbrev pub presented_then : Option (Result Verdict Refusal) → List ℕ → List ℕ
 presented_then (Some p) rest = decimal (presented_number p) ++ rest
 presented_then None rest = 45 ∷ rest
