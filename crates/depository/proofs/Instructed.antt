@@ -162,7 +162,7 @@ module _ (h : Rulebook) (pairs : ℕ) (few : pairs ≤ 32767) (t : Tally) (x : I
   leads : (c w r : Answer) → checked h x v ≡ c → enter_answer v.medium v.count ≡ w → LeftBy c w x v v' → r ≡ and_then c (within_entry x v.count w)
       → KeptBy h pairs t v l v.mode → KeptBy h pairs (fed_instruction t x r) v' l v'.mode
   leads (Err f) w r ec ew same er k =
-      let still : fed_instruction t x r ≡ t = ap (fed_instruction t x) er ∙ ap (λ b. record { list = t.list; hand = cond b (Some x) t.hand }) (checked-calm h x v f ec) in
+      let still : fed_instruction t x r ≡ t = ap (fed_instruction t x) er ∙ ap (λ b. cond b (record { list = t.list; hand = Some x }) t) (checked-calm h x v f ec) in
       subst (λ u. KeptBy h pairs u v' l v'.mode) (sym still) (subst (λ u. KeptBy h pairs t u l u.mode) (sym same) k)
   leads (Ok u) (Ok w) r ec ew a er k =
       let p = let-pass (sym ec) in
@@ -174,7 +174,7 @@ module _ (h : Rulebook) (pairs : ℕ) (few : pairs ≤ 32767) (t : Tally) (x : I
       let i = idle p k in
       let cut = enter-cut v.medium v.count f ew in
       let is13-still : is13 (about x (in_entry v.count f)).refusal ≡ true = ap is13 (about-refusal-as (names_trade (kind_at x.kind)) (in_entry v.count f) x.trade) ∙ cut.0 in
-      let held : fed_instruction t x r ≡ record { list = t.list; hand = Some x } = ap (fed_instruction t x) er ∙ ap (λ b. record { list = t.list; hand = cond b (Some x) t.hand }) is13-still in
+      let held : fed_instruction t x r ≡ record { list = t.list; hand = Some x } = ap (fed_instruction t x) er ∙ ap (λ b. cond b (record { list = t.list; hand = Some x }) t) is13-still in
       let now : KeptBy h pairs (record { list = t.list; hand = Some x }) v' l (Down x) = (refl, in-hand p i.0 i.1 cut.1 a) in
       subst (λ u. KeptBy h pairs u v' l v'.mode) (sym held) (subst (λ m. KeptBy h pairs (record { list = t.list; hand = Some x }) v' l m) (sym a.mode) now)
 

@@ -46,4 +46,4 @@ module _ (h : Rulebook) (pairs : ℕ) (t : Tally) where
   KeptIn (shut m books) l = OnDevice m × Matches l t
 
   abbrev pub Kept : Moment → Type 0
-  Kept a = KeptIn a.phase a.last
+  Kept a = KeptIn a.phase a.owed

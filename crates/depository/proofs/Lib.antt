@@ -1,8 +1,8 @@
 pub mod Kept
 pub mod Instructed
 pub mod Reopened
-pub mod Courses
+pub mod Survival
 pub mod Runs
 pub mod Starts
-pub mod OneCourse
+pub mod OneAnswer
 pub mod Fixing

@@ -1,7 +1,10 @@
 -- A close, a restart and an opening leave what the tally says.
-use Rattle.std.proofs.Common.{◌≡◌, ℕ, ◌+◌, ◌*◌, ◌<◌, ◌≤◌, true, false, cond, eqb, List, [], ◌∷◌, ◌++◌, length, Some, None, Ok, Option, sym, refl, ap, ◌∙◌, subst, inl, inr, arith}
+use Rattle.std.proofs.Common.{◌≡◌, ℕ, ◌+◌, ◌*◌, ◌<◌, ◌≤◌, true, false, eqb, List, [], ◌∷◌, ◌++◌, length, Some, None, Ok, Err, Option, Result, ◌⊎◌, sym, refl, ap, ◌∙◌, subst, inl, inr, arith}
 use Rattle.std.proofs.lemmas.List.{length_push}
 use Rattle.std.proofs.lemmas.Bool.{eq-eqb, ne_eqb, cond-true, cond-false}
+use Rattle.answers.specs.declared.Refusal.{Refusal}
+use Rattle.answers.specs.declared.Fault.{Fault}
+use Rattle.answers.specs.Numbers.{number_of}
 use Rattle.instruction.specs.declared.Instruction.{Instruction}
 use Rattle.rulebook.specs.Terms.{securities, cash}
 use Rattle.rulebook.specs.Rules.{Rulebook}
@@ -11,8 +14,9 @@ use Rattle.journal.proofs.Survives.{restarting}
 use Rattle.engine.specs.declared.engine.Mode.{Mode}
 use Rattle.engine.specs.declared.engine.Mode.TheVariants.{Open, Down, Refused}
 use Rattle.engine.specs.declared.slip.Contents.{Contents}
+use Rattle.engine.specs.declared.slip.Verdict.{Verdict}
 use Rattle.engine.specs.declared.slip.Verdict.TheVariants.{Same, Stands}
-use Rattle.engine.specs.Slips.{same_fields, judged, number_of as verdict_number}
+use Rattle.engine.specs.Slips.{same_fields, judged, Judges, presented_number}
 use Rattle.engine.specs.View.{View}
 use Rattle.engine.specs.Asking.{opening_answer, told_by}
 use Rattle.engine.specs.Opening.{opened, last_of}
@@ -20,10 +24,11 @@ use Rattle.engine.specs.Lasting.{written_by}
 use Rattle.engine.proofs.Keeping.{WithOrWithout, Holding, FoundBy}
 use Rattle.engine.proofs.Finds.{last-more}
 use Rattle.engine.proofs.Openings.{opens}
+use Rattle.depository.specs.declared.calls.Opened.{Opened}
 use Rattle.depository.specs.Slips.{latest}
 use Rattle.depository.specs.Calling.{slip_answer, owed_after}
-use Rattle.depository.specs.Tally.{Tally, fed_opening, found_to_stand, with_hand}
-use Rattle.depository.specs.Law.{Upholds, UpheldBy}
+use Rattle.depository.specs.Tally.{Tally, fed_opening, with_hand}
+use Rattle.depository.specs.Law.{Judged}
 use Rattle.depository.proofs.Kept.{Matches, Paired, OnDevice, InEngine, KeptBy}
 
 nothing-is-some : {X : Type 0} {x : X} → ◌≡◌ {A = Option X} None (Some x) → ⊥
@@ -66,41 +71,71 @@ module _ (h : Rulebook) (pairs : ℕ) (t : Tally) where
     size = omega (arith, r.size, k.size);
   }
 
+  -- what is answered to the open that gave an engine
+  abbrev answered : Mode → View → Option Contents → Opened
+  answered m v l = record { answer = opening_answer m; found = v.found; presented = slip_answer m v.found v.last l }
+
   -- what an opening answered 0 found is what the verdict on the slip has the tally take
   pub record Agrees (l : Option Contents) (v : View) (ys : List Instruction) : Type 0 where
-    pub list : cond (found_to_stand (slip_answer Open v.found v.last l)) (with_hand t.list t.hand) t.list ≡ ys
-    pub upholds : Upholds (slip_answer Open v.found v.last l)
+    pub fed : fed_opening t (Ok tt) (slip_answer Open v.found v.last l) ≡ record { list = ys; hand = None }
+    pub judged : Judged l (answered Open v l) v
+
+  none-judged : (v : View) → Judged None (answered Open v None) v
+  none-judged v = record { none = λ e. refl; judged = λ c e. absurd (nothing-is-some e); upheld = λ w e. absurd (nothing-is-some e) }
+
+  abbrev IsUpheld : Result Verdict Refusal → Type 0
+  IsUpheld p = (presented_number p ≡ 0) ⊎ (presented_number p ≡ 1)
+
+  is-judged : (c : Contents) (v : View) (w : Verdict) → judged (Some c) v.found v.last ≡ w → Judges (Some c) v.found v.last w → IsUpheld (Ok w) → Judged (Some c) (answered Open v (Some c)) v
+  is-judged c v w e j up = record {
+    none = λ e. absurd (nothing-is-some (sym e));
+    judged = λ b same. let q : c ≡ b = cc in (w, ap (λ u. Some (Ok u)) e, subst (λ u. Judges (Some u) v.found v.last w) q j);
+    upheld = λ p same. let q : Ok w ≡ p = cc (e, same) in subst IsUpheld q up;
+  }
+
+  abbrev feeds : Verdict → Tally
+  feeds w = fed_opening t (Ok tt) (Some (Ok w))
 
   agrees-without : (l : Option Contents) (v : View) (ys : List Instruction) → Matches l t → v.found ≡ length ys → ys ≡ t.list → Agrees l v ys
-  agrees-without None v ys m found e = record { list = sym e; upholds = tt }
+  agrees-without None v ys m found e = record { fed = λ i. record { list = sym e i; hand = None }; judged = none-judged v }
   agrees-without (Some c) v ys m found e =
-      let same = judged-same c v.found v.last (found ∙ ap length e ∙ sym m.0) in
+      let n : v.found ≡ c.entries = found ∙ ap length e ∙ sym m.0 in
+      let same = judged-same c v.found v.last n in
       record {
-        list = ap (λ w. cond (eqb (verdict_number w) 1) (with_hand t.list t.hand) t.list) same ∙ sym e;
-        upholds = inl (ap verdict_number same);
+        fed = ap feeds same ∙ (λ i. record { list = sym e i; hand = None });
+        judged = is-judged c v Same same (c, refl, n) (inl refl);
       }
 
   agrees-with : (l : Option Contents) (v : View) (ys : List Instruction) (x : Instruction) → Matches l t → v.found ≡ length ys → v.last ≡ last_of ys → t.hand ≡ Some x → ys ≡ t.list ++ (x ∷ []) → Agrees l v ys
   agrees-with None v ys x m found last hand e = absurd (nothing-is-some (sym m ∙ hand))
   agrees-with (Some c) v ys x m found last hand e =
-      let stands = judged-stands c v.found v.last x (found ∙ ap length e ∙ length_push t.list x ∙ ap (λ n. n + 1) (sym m.0)) (m.1 ∙ hand) (last ∙ ap last_of e ∙ last-more t.list x) in
+      let n : v.found ≡ c.entries + 1 = found ∙ ap length e ∙ length_push t.list x ∙ ap (λ n. n + 1) (sym m.0) in
+      let is-last : v.last ≡ Some x = last ∙ ap last_of e ∙ last-more t.list x in
+      let stands = judged-stands c v.found v.last x n (m.1 ∙ hand) is-last in
       record {
-        list = ap (λ w. cond (eqb (verdict_number w) 1) (with_hand t.list t.hand) t.list) stands ∙ ap (with_hand t.list) hand ∙ sym e;
-        upholds = inr (ap verdict_number stands);
+        fed = ap feeds stands ∙ (λ i. record { list = with_hand t.list (hand i); hand = None }) ∙ (λ i. record { list = sym e i; hand = None });
+        judged = is-judged c v Stands stands (c, refl, n, (x, m.1 ∙ hand, is-last)) (inr refl);
       }
 
   agrees : (l : Option Contents) (v : View) (ys : List Instruction) → Matches l t → Holding h pairs ys v → WithOrWithout t.list t.hand ys → Agrees l v ys
   agrees l v ys m g (inl e) = agrees-without l v ys m g.found e
   agrees l v ys m g (inr (x, hand, e)) = agrees-with l v ys x m g.found g.last hand e
 
+  -- one that is refused is refused for want of calls, and one that is not says of the slip what the law has it say
+  abbrev Says : Option Contents → View → Mode → Type 0
+  Says l v Open = Judged l (answered Open v l) v
+  Says l v (Down x) = ⊥
+  Says l v (Refused f) = number_of f.refusal ≡ 13
+
   -- what an opening makes of a tally that the device kept
   pub record Reopened (m : Medium) (l : Option Contents) (v : View) : Type 0 where
     pub kept : KeptBy h pairs (fed_opening t (opening_answer v.mode) (slip_answer v.mode v.found v.last l)) v (owed_after v.mode l) v.mode
-    pub upholds : UpheldBy (opening_answer v.mode) (slip_answer v.mode v.found v.last l)
+    pub judged : opening_answer v.mode ≡ Ok tt → Judged l (answered v.mode v l) v
+    pub refused : (f : Fault) → opening_answer v.mode ≡ Err f → number_of f.refusal ≡ 13
     pub prompt : 1 + 2 * pairs ≤ m.left → opening_answer v.mode ≡ Ok tt
 
   abbrev KeptAs : Option Contents → View → Mode → Type 0
-  KeptAs l v m = KeptBy h pairs (fed_opening t (opening_answer m) (slip_answer m v.found v.last l)) v (owed_after m l) m × UpheldBy (opening_answer m) (slip_answer m v.found v.last l)
+  KeptAs l v m = KeptBy h pairs (fed_opening t (opening_answer m) (slip_answer m v.found v.last l)) v (owed_after m l) m × Says l v m
 
   kept-as : (w : Medium) (l : Option Contents) (v : View) (m : Mode) → OnDevice h pairs t w → Matches l t → 1 + 2 * pairs ≤ v.medium.size → FoundBy h pairs t.list t.hand v m → KeptAs l v m
   kept-as w l v Open k ml size (ys, either, g) =
@@ -115,13 +150,23 @@ module _ (h : Rulebook) (pairs : ℕ) (t : Tally) where
         room = g.room;
         count = g.count;
       } in
-      ((refl, subst (λ zs. InEngine h pairs (record { list = zs; hand = None }) v) (sym a.list) engine), a.upholds)
+      (subst (λ u. KeptBy h pairs u v None Open) (sym a.fed) (refl, engine), a.judged)
   kept-as w l v (Down x) k ml size f = absurd f
   kept-as w l v (Refused f) k ml size j = ((record { journal = j.1; lawful = k.lawful; size = size }, ml), j.0)
+
+  says-judged : (l : Option Contents) (v : View) (m : Mode) → Says l v m → opening_answer m ≡ Ok tt → Judged l (answered m v l) v
+  says-judged l v Open s e = s
+  says-judged l v (Down x) s e = absurd s
+  says-judged l v (Refused f) s e = absurd cc
+
+  says-refused : (l : Option Contents) (v : View) (m : Mode) → Says l v m → (f : Fault) → opening_answer m ≡ Err f → number_of f.refusal ≡ 13
+  says-refused l v Open s f e = absurd cc
+  says-refused l v (Down x) s f e = absurd s
+  says-refused l v (Refused g) s f e = let q : g ≡ f = cc in subst (λ (u : Fault). number_of u.refusal ≡ 13) q s
 
   pub reopened : (m : Medium) (l : Option Contents) → Paired pairs → (h.kind securities).code < 256 → (h.kind cash).code < 256 → Bounded m → OnDevice h pairs t m → Matches l t → Reopened m l (opened h m)
   reopened m l p c₁ c₂ b k ml =
       let v = opened h m in
       let o = opens h pairs m t.list t.hand v p.some p.few k.size c₁ c₂ b k.journal k.lawful refl in
       let a = kept-as m l v v.mode k ml (omega (arith, o.same.size, k.size)) o.found in
-      record { kept = a.0; upholds = a.1; prompt = λ low. ap opening_answer (o.prompt low) }
+      record { kept = a.0; judged = says-judged l v v.mode a.1; refused = says-refused l v v.mode a.1; prompt = λ low. ap opening_answer (o.prompt low) }

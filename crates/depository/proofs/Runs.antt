@@ -1,13 +1,16 @@
--- A run, call by call.
+-- A path, call by call.
 use Rattle.std.proofs.Common.{◌≡◌, ℕ, ◌+◌, ◌<◌, ◌≤◌, List, [], ◌∷◌, ◌++◌, length, get_or, map, take, sym, refl, subst}
 use Rattle.std.proofs.lemmas.List.{map_more, take_all}
+use Rattle.instruction.specs.declared.Instruction.{Instruction}
+use Rattle.instruction.specs.Layout.{Fit}
 use Rattle.rulebook.specs.Rules.{Rulebook}
 use Rattle.depository.specs.declared.calls.Reply.{Reply}
 use Rattle.depository.specs.declared.calls.Call.{Call}
-use Rattle.depository.specs.Orders.{Order, to_ask, order}
+use Rattle.depository.specs.declared.calls.Call.TheVariants.{Instruct}
+use Rattle.depository.specs.Orders.{Order, to_instruct, to_ask, order}
 use Rattle.depository.specs.declared.calls.Question.{Question}
 use Rattle.depository.specs.Calling.{Does}
-use Rattle.device.specs.Medium.{Medium, Bounded}
+use Rattle.device.specs.Medium.{Medium}
 use Rattle.device.specs.Traces.{DeviceCall}
 use Rattle.device.specs.declared.Device as device
 use Rattle.book.specs.declared.Book as book
@@ -15,26 +18,37 @@ use Rattle.depository.specs.declared.condition.Condition.{Condition}
 use Rattle.depository.specs.declared.condition.Condition.TheVariants.{Running, Shut}
 use Rattle.depository.specs.Moments.{Phase, running, shut, Moment, phase_of}
 use Rattle.depository.specs.Handling.{medium_in, device_of, Handled}
-use Rattle.depository.specs.Steps.{SoundPhase, SoundOrder, Step, Path, done, onward}
+use Rattle.depository.specs.Paths.{Path, done, onward}
+
+-- what is read past the end of a list of calls
+abbrev pub unasked : Call
+unasked = Instruct (record { kind = 0; account = 0; counterparty = 0; item = 0; currency = 0; trade = 0; quantity = 0; amount = 0 })
+
+-- the instruction of a call fits its fields
+abbrev pub FitIn : Order → Type 0
+FitIn c = (x : Instruction) → c ≡ to_instruct x → Fit x
+
+pub fit-of : (x : Instruction) → Fit x → FitIn (to_instruct x)
+fit-of x fit y e = let q : x ≡ y = cc in subst Fit q fit
 
 module _ {D : Type 0} (makes : D → DeviceCall → D → Type 0) (means : D → Medium) (h : Rulebook) (most : ℕ) where
-  one-more : {a m b : Moment} {d e f : D} {cs : List Order} {rs : List Reply} {c : Order} {r : Reply} → Path makes means h most a d cs rs m e → Step h most m c r b → Handled makes h m.phase c e f → means f ≡ medium_in b.phase
+  one-more : {a m b : Moment} {d e f : D} {cs : List Order} {rs : List Reply} {c : Order} (r : Reply) → Path makes means h most a d cs rs m e → FitIn c → Does h most m c r b → Handled makes h m.phase c e f → means f ≡ medium_in b.phase
       → Path makes means h most a d (cs ++ (c ∷ [])) (rs ++ (r ∷ [])) b f
-  one-more (done is) s hd then = onward is s hd (done then)
-  one-more (onward is t hd p) s hd' then = onward is t hd (one-more p s hd' then)
+  one-more r (done is) fit s hd then = onward (record { means-it = is; fit = fit; does = s; handled = hd }) (done then)
+  one-more r' (onward t p) fit s hd then = onward t (one-more r' p fit s hd then)
 
   -- one call more, from a list of calls
-  pub next-call : {a m b : Moment} {d e f : D} (none : Call) (cs : List Call) (i : ℕ) {rs rs' : List Reply} {r : Reply} → i < length cs → Path makes means h most a d (map order (take i cs)) rs m e
-      → Step h most m (order (get_or cs i none)) r b → Handled makes h m.phase (order (get_or cs i none)) e f → means f ≡ medium_in b.phase → rs' ≡ rs ++ (r ∷ []) → Path makes means h most a d (map order (take (i + 1) cs)) rs' b f
-  next-call {a} {m} {b} {d} {e} {f} none cs i {rs} {rs'} {r} lt p s hd then is =
+  pub next-call : {a m b : Moment} {d e f : D} (none : Call) (cs : List Call) (i : ℕ) (r : Reply) {rs rs' : List Reply} → i < length cs → Path makes means h most a d (map order (take i cs)) rs m e → FitIn (order (get_or cs i none))
+      → Does h most m (order (get_or cs i none)) r b → Handled makes h m.phase (order (get_or cs i none)) e f → means f ≡ medium_in b.phase → rs' ≡ rs ++ (r ∷ []) → Path makes means h most a d (map order (take (i + 1) cs)) rs' b f
+  next-call {a} {m} {b} {d} {e} {f} none cs i r {rs} {rs'} lt p fit s hd then is =
       subst (λ xs. Path makes means h most a d xs rs' b f) (sym (map_more order cs i none lt))
-      (subst (λ ys. Path makes means h most a d (map order (take i cs) ++ (order (get_or cs i none) ∷ [])) ys b f) (sym is) (one-more p s hd then))
+      (subst (λ ys. Path makes means h most a d (map order (take i cs) ++ (order (get_or cs i none) ∷ [])) ys b f) (sym is) (one-more r p fit s hd then))
 
   -- the same, where the call was given by what it asks for
   pub next-order : {a m b : Moment} {d e f : D} (none : Call) (cs : List Call) (i : ℕ) (o : Order) (r : Reply) {rs rs' : List Reply} → i < length cs → Path makes means h most a d (map order (take i cs)) rs m e
-      → order (get_or cs i none) ≡ o → Does h most m o r b → SoundPhase m.phase → SoundOrder o → Handled makes h m.phase o e f → means f ≡ medium_in b.phase → rs' ≡ rs ++ (r ∷ []) → Path makes means h most a d (map order (take (i + 1) cs)) rs' b f
-  next-order {a} {m} {b} {d} {e} {f} none cs i o r {rs} {rs'} lt p eo does phase sound hd then is =
-      next-call none cs i lt p (record { does = subst (λ q. Does h most m q r b) (sym eo) does; phase = phase; call = subst SoundOrder (sym eo) sound }) (subst (λ q. Handled makes h m.phase q e f) (sym eo) hd) then is
+      → order (get_or cs i none) ≡ o → FitIn o → Does h most m o r b → Handled makes h m.phase o e f → means f ≡ medium_in b.phase → rs' ≡ rs ++ (r ∷ []) → Path makes means h most a d (map order (take (i + 1) cs)) rs' b f
+  next-order {a} {m} {b} {d} {e} {f} none cs i o r {rs} {rs'} lt p eo fit does hd then is =
+      next-call none cs i r lt p (subst FitIn (sym eo) fit) (subst (λ q. Does h most m q r b) (sym eo) does) (subst (λ q. Handled makes h m.phase q e f) (sym eo) hd) then is
 
   -- a question leaves the device
   pub asked-only : (a : Phase) (q : Question) (d : D) → Handled makes h a (to_ask q) d d
@@ -49,8 +63,3 @@ module _ {D : Type 0} (makes : D → DeviceCall → D → Type 0) (means : D →
 pub means-it : {D R C : Type 0} {d : device.Ghosts D} {r : book.Ghosts R} {c : book.Ghosts C} (x : Condition D R C d r c) → d.medium (device_of x) ≡ medium_in (phase_of x)
 means-it (Running e) = refl
 means-it (Shut device register cash) = refl
-
--- and is as every device is
-pub sound : {D R C : Type 0} {d : device.Ghosts D} {r : book.Ghosts R} {c : book.Ghosts C} → ((x : D) → Bounded (d.medium x)) → (x : Condition D R C d r c) → SoundPhase (phase_of x)
-sound bounds (Running e) = bounds e.device
-sound bounds (Shut device register cash) = bounds device

@@ -1,5 +1,5 @@
 -- A depository after a format.
-use Rattle.std.proofs.Common.{◌∙◌, ◌≡◌, ℕ, ◌+◌, ◌*◌, ◌<◌, ◌≤◌, Bool, true, false, cond, List, [], ◌∷◌, ◌++◌, take, None, Ok, Err, sym, refl, subst, arith}
+use Rattle.std.proofs.Common.{◌≡◌, ℕ, ◌+◌, ◌*◌, ◌<◌, ◌≤◌, Bool, true, false, cond, List, [], ◌∷◌, ◌++◌, take, None, Ok, Err, sym, refl, subst, arith}
 use Rattle.answers.specs.declared.Fault.{Fault}
 use Rattle.answers.specs.declared.Refusal.TheVariants.{NoRoom}
 use Rattle.answers.specs.Faults.{plain}
@@ -10,18 +10,18 @@ use Rattle.rulebook.proofs.Meanings.{last-words}
 use Rattle.device.specs.Medium.{Medium, Bounded}
 use Rattle.device.specs.Calls.{Answer}
 use Rattle.device.specs.Traces.{DeviceCall, writing, syncing, Traced}
-use Rattle.journal.specs.Blocks.{zeros, header_bytes, layout}
-use Rattle.journal.specs.Journal.{Journal}
+use Rattle.journal.specs.Blocks.{zeros, header_bytes}
+use Rattle.journal.proofs.Fresh.{fresh-journal}
 use Rattle.journal.specs.Format.{no_room, format_answer, header_for as format_header, Formatted, mark_writes, format_calls}
 use Rattle.engine.specs.Opening.{header_for}
 use Rattle.depository.specs.declared.calls.Reply.{Reply}
 use Rattle.depository.specs.Orders.{Order}
 use Rattle.depository.specs.Moments.{Moment, shut, at}
 use Rattle.depository.specs.Tally.{fresh}
-use Rattle.depository.specs.Steps.{Path}
+use Rattle.depository.specs.Paths.{Path}
 use Rattle.depository.specs.Law.{AfterFormat, Survives}
 use Rattle.depository.proofs.Kept.{Paired, Kept}
-use Rattle.depository.proofs.Courses.{survives}
+use Rattle.depository.proofs.Survival.{law, beyond}
 
 format-passes : (b : Bool) (e : Fault) (rest : Answer) → Ok tt ≡ cond b (Err e) rest → b ≡ false
 format-passes true e rest ok = absurd cc
@@ -44,7 +44,7 @@ same-header : (h : Rulebook) (a b pairs : ℕ) → a ≡ (h.kind securities).cod
 same-header h a b pairs ea eb = λ i. record { register = ea i; cash = eb i; pairs = pairs }
 
 -- a device d, and what a format by the kinds that the books answered made of it
-module _ {D : Type 0} (makes : D → DeviceCall → D → Type 0) (means : D → Medium) (h : Rulebook) (most pairs : ℕ) (d e : D) (books : Side → Holdings) (a b : ℕ) (ea : a ≡ (h.kind securities).code) (eb : b ≡ (h.kind cash).code)
+module _ {D : Type 0} (makes : D → DeviceCall → D → Type 0) (means : D → Medium) (h : Rulebook) (pairs : ℕ) (d e : D) (a b : ℕ) (ea : a ≡ (h.kind securities).code) (eb : b ≡ (h.kind cash).code)
     (r : Answer) (is : r ≡ format_answer pairs (means d))
     (after : no_room pairs (means d).size ≡ false → Formatted (header_bytes (format_header a b pairs)) pairs (means d) (means e))
     (trace : Traced makes (format_calls (header_bytes (format_header a b pairs)) pairs (means d).size (means d).left) d e) where
@@ -60,22 +60,33 @@ module _ {D : Type 0} (makes : D → DeviceCall → D → Type 0) (means : D →
     trace = subst (λ head. Traced makes (format_calls (header_bytes head) pairs (means d).size (means d).left) d e) (same-header h a b pairs ea eb) trace;
   }
 
-  module _ (c₁ : (h.kind securities).code < 256) (c₂ : (h.kind cash).code < 256) (ok : r ≡ Ok tt) (journal : Journal (layout (format_header a b pairs)) (means e) [] None) where
+-- of a format that is answered 0, enough calls were left
+format-calls : (pairs : ℕ) (m : Medium) → format_answer pairs m ≡ Ok tt → pairs + 4 < m.left
+format-calls pairs m e = grind (arith, e)
+
+module _ {D : Type 0} (makes : D → DeviceCall → D → Type 0) (means : D → Medium) (h : Rulebook) (most pairs : ℕ) (d : D) (books : Side → Holdings) (c₁ : (h.kind securities).code < 256) (c₂ : (h.kind cash).code < 256) (bounds : (x : D) → Bounded (means x)) where
+  module _ (e : D) (f : AfterFormat makes means h pairs d (Ok tt) e) where
     roomy : no_room pairs (means d).size ≡ false
-    roomy = has-room pairs (means d) (sym is ∙ ok)
+    roomy = has-room pairs (means d) f.format
+
+    paired : Paired pairs
+    paired = (room pairs (means d).size roomy).paired
 
     -- nothing stands yet, and no slip is owed
     kept : Kept h pairs fresh (at (shut (means e) books) None)
     kept = (
       record {
-        journal = subst (λ head. Journal (layout head) (means e) [] None) (same-header h a b pairs ea eb) journal;
+        journal = fresh-journal (header_for h pairs) (means d) (means e) (omega (arith, paired.few)) (format-calls pairs (means d) f.format) (f.after roomy);
         lawful = record { standing = empty; runs = start; next = λ x q. absurd cc };
-        size = omega (arith, (room pairs (means d).size roomy).within, (after roomy).size);
+        size = omega (arith, (room pairs (means d).size roomy).within, (f.after roomy).size);
       },
       refl,
     )
 
-    pub served : ((x : D) → Bounded (means x)) → {n : Moment} {cs : List Order} {rs : List Reply} {z : Moment} {f : D} → n ≡ at (shut (means e) books) None → Path makes means h most n e cs rs z f → Survives makes means h most pairs d books cs rs z f
-    served bounds {n} {cs} {rs} {z} {f} en path =
-        let s = survives h most pairs (room pairs (means d).size roomy).paired c₁ c₂ makes means bounds (subst (λ a. Path makes means h most a e cs rs z f) en path) kept in
-        record { device = e; formatted = subst (λ q. AfterFormat makes means h pairs d q e) ok after-format; course = s.0; law = s.1; words = last-words }
+  pub served : {cs : List Order} {rs : List Reply} {n z : Moment} {e f : D} → AfterFormat makes means h pairs d (Ok tt) e → n ≡ at (shut (means e) books) None → Path makes means h most n e cs rs z f → Survives makes means h most pairs d books cs rs z f
+  served {cs} {rs} {n} {z} {e} {f} after en path = record {
+    run = record { device = e; formatted = after; path = subst (λ a. Path makes means h most a e cs rs z f) en path };
+    law = λ cs rs b f run. law h most pairs (paired run.device run.formatted) c₁ c₂ makes means bounds (kept run.device run.formatted) refl run.path;
+    beyond = λ cs rs b f run. beyond h most pairs (paired run.device run.formatted) c₁ c₂ makes means bounds (kept run.device run.formatted) refl run.path;
+    words = last-words;
+  }

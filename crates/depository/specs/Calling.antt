@@ -1,4 +1,5 @@
--- What each call of a depository answers and where it leads, by the engine's and the device's own relations. Assumes nothing.
+-- What each call of a depository answers and where it leads, by the relations of the engine and of
+-- the device.
 use Rattle.std.specs.Prelude.{◌≡◌, ℕ, Some, None, Ok, Err, Option, Result}
 use Rattle.answers.specs.declared.Refusal.{Refusal}
 use Rattle.answers.specs.Numbers.{numbered}
@@ -36,33 +37,40 @@ pub record Leads (r r₀ : Reply) (b b₀ : Moment) : Type 0 where
   pub leads : b ≡ b₀
 
 -- an instruction, as the engine says
-pub record Instructs (h : Rulebook) (x : Instruction) (v : View) (l : Option Contents) (r : Reply) (b : Moment) : Type 0 where
+pub record Instructs (h : Rulebook) (x : Instruction) (v : View) (l : Option Contents) (r : Reply)
+    (b : Moment) : Type 0 where
   pub answered : Answer
   pub after : View
   pub engine : InstructedEngine h x v after answered
   pub leads : Leads r (Instructed answered) b (at (running after) l)
 
 -- a restart, as the device says; the books stay
-pub record Restarts (q most : ℕ) (m : Medium) (books : Side → Holdings) (l : Option Contents) (r : Reply) (b : Moment) : Type 0 where
+pub record Restarts (q most : ℕ) (m : Medium) (books : Side → Holdings) (l : Option Contents)
+    (r : Reply) (b : Moment) : Type 0 where
   pub after : Medium
   pub device : Restart m after q most
   pub leads : Leads r Done b (at (shut after books) l)
 
--- what the last slip that is not unknown answers when it is presented to an engine
-abbrev pub slip_answer : Mode → ℕ → Option Instruction → Option Contents → Option (Result Verdict Refusal)
+-- what the slip that is owed, if any, answers when it is presented to an engine
+abbrev pub slip_answer : Mode → ℕ → Option Instruction → Option Contents
+    → Option (Result Verdict Refusal)
 slip_answer m n last None = None
 slip_answer Open n last (Some c) = Some (Ok (judged (Some c) n last))
 slip_answer (Down x) n last (Some c) = Some (Ok (judged (Some c) n last))
 slip_answer (Refused f) n last (Some c) = Some (Err (numbered 41))
 
--- the slip that is still owed then
+-- the slip that is owed then: an engine whose opening was refused gives it back
 abbrev pub owed_after : Mode → Option Contents → Option Contents
 owed_after Open l = None
 owed_after (Down x) l = None
 owed_after (Refused f) l = l
 
 abbrev pub opened_reply : View → Option Contents → Reply
-opened_reply v l = OpenedReply (record { answer = opening_answer v.mode; found = v.found; presented = slip_answer v.mode v.found v.last l })
+opened_reply v l = OpenedReply (record {
+  answer = opening_answer v.mode;
+  found = v.found;
+  presented = slip_answer v.mode v.found v.last l;
+})
 
 -- where an opening leads
 abbrev pub opened_moment : View → Option Contents → Moment
@@ -74,31 +82,25 @@ fact f (Ok x) = Ok (f x)
 fact f (Err r) = Err r
 
 abbrev pub told : Rulebook → View → Question → Result Fact Refusal
-told h v (Securities a i) = fact HoldingFact (if_answering v.mode (holding_question h v.standing securities a i))
-told h v (Money a i) = fact HoldingFact (if_answering v.mode (holding_question h v.standing cash a i))
+told h v (Securities a i) =
+    fact HoldingFact (if_answering v.mode (holding_question h v.standing securities a i))
+told h v (Money a i) =
+    fact HoldingFact (if_answering v.mode (holding_question h v.standing cash a i))
 told h v (TradeState t) = fact StateFact (if_answering v.mode (state_question v.standing.state t))
 told h v Entries = fact EntriesFact (if_answering v.mode (Ok v.count))
 
 module _ (h : Rulebook) (most : ℕ) where
-  -- by where the depository is: a call that does not fit is answered so and changes nothing, nor does a question
-  abbrev pub WhileRunning : View → Option Contents → Order → Reply → Moment → Type 0
-  WhileRunning v l (to_instruct x) r b = Instructs h x v l r b
-  WhileRunning v l to_close r b = Leads r Done b (at (shut v.medium v.standing.book) (latest (closing v) l))
-  WhileRunning v l (to_restart q remains) r b = Leads r Misfit b (at (running v) l)
-  WhileRunning v l to_open r b = Leads r Misfit b (at (running v) l)
-  WhileRunning v l (to_ask q) r b = Leads r (Told (told h v q)) b (at (running v) l)
-
-  abbrev pub WhileShut : Medium → (Side → Holdings) → Option Contents → Order → Reply → Moment → Type 0
-  WhileShut m books l (to_instruct x) r b = Leads r Misfit b (at (shut m books) l)
-  WhileShut m books l to_close r b = Leads r Misfit b (at (shut m books) l)
-  WhileShut m books l (to_restart q remains) r b = Restarts q most m books l r b
-  WhileShut m books l to_open r b = Leads r (opened_reply (opened h m) l) b (opened_moment (opened h m) l)
-  WhileShut m books l (to_ask q) r b = Leads r Misfit b (at (shut m books) l)
-
   abbrev pub DoesIn : Phase → Option Contents → Order → Reply → Moment → Type 0
-  DoesIn (running v) l c r b = WhileRunning v l c r b
-  DoesIn (shut m books) l c r b = WhileShut m books l c r b
+  DoesIn (running v) l (to_instruct x) r b = Instructs h x v l r b
+  DoesIn (running v) l to_close r b =
+      Leads r Done b (at (shut v.medium v.standing.book) (latest (closing v) l))
+  DoesIn (running v) l (to_ask q) r b = Leads r (Told (told h v q)) b (at (running v) l)
+  DoesIn (shut m books) l (to_restart q remains) r b = Restarts q most m books l r b
+  DoesIn (shut m books) l to_open r b =
+      Leads r (opened_reply (opened h m) l) b (opened_moment (opened h m) l)
+  -- any other call does not fit: it is answered so, and changes nothing
+  DoesIn a l c r b = Leads r Misfit b (at a l)
 
   -- a call c answered r leads from the moment a to the moment b
   abbrev pub Does : Moment → Order → Reply → Moment → Type 0
-  Does a c r b = DoesIn a.phase a.last c r b
+  Does a c r b = DoesIn a.phase a.owed c r b

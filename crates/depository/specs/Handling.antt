@@ -1,14 +1,14 @@
--- What each call does to the device, by what the device's kind says exactly. Assumes nothing.
+-- What each call does to the device, by what the device's kind says exactly.
 use Rattle.std.specs.Prelude.{◌≡◌}
 use Rattle.rulebook.specs.Rules.{Rulebook}
 use Rattle.device.specs.Medium.{Medium}
-use Rattle.device.specs.Traces.{DeviceCall, restarting, Traced, ReadOnly}
+use Rattle.device.specs.Traces.{DeviceCall, restarting, Traced}
 use Rattle.device.specs.declared.Device as device
 use Rattle.book.specs.declared.Book as book
-use Rattle.engine.specs.Tracing.{instruct_calls}
+use Rattle.engine.specs.Tracing.{instruct_calls, opening_calls}
 use Rattle.depository.specs.declared.condition.Condition.{Condition}
 use Rattle.depository.specs.declared.condition.Condition.TheVariants.{Running, Shut}
-use Rattle.depository.specs.Orders.{Order, to_instruct, to_close, to_restart, to_open, to_ask}
+use Rattle.depository.specs.Orders.{Order, to_instruct, to_restart, to_open}
 use Rattle.depository.specs.Moments.{Phase, running, shut}
 
 -- what the device means
@@ -17,20 +17,15 @@ medium_in (running v) = v.medium
 medium_in (shut m books) = m
 
 -- where the device is
-abbrev pub device_of : {D R C : Type 0} {d : device.Ghosts D} {r : book.Ghosts R} {c : book.Ghosts C} → Condition D R C d r c → D
+abbrev pub device_of : {D R C : Type 0}
+    {d : device.Ghosts D} {r : book.Ghosts R} {c : book.Ghosts C} → Condition D R C d r c → D
 device_of (Running e) = e.device
 device_of (Shut device register cash) = device
 
 module _ {D : Type 0} (makes : D → DeviceCall → D → Type 0) (h : Rulebook) where
-  -- the calls of an instruction, the reads of an opening, a restart; all else leaves the device
+  -- the calls of an instruction, those of an opening, a restart; all else leaves the device
   abbrev pub Handled : Phase → Order → D → D → Type 0
   Handled (running v) (to_instruct x) d e = Traced makes (instruct_calls h x v) d e
-  Handled (running v) to_close d e = e ≡ d
-  Handled (running v) (to_restart q remains) d e = e ≡ d
-  Handled (running v) to_open d e = e ≡ d
-  Handled (running v) (to_ask question) d e = e ≡ d
-  Handled (shut m books) (to_instruct x) d e = e ≡ d
-  Handled (shut m books) to_close d e = e ≡ d
   Handled (shut m books) (to_restart q remains) d e = makes d (restarting q remains) e
-  Handled (shut m books) to_open d e = ReadOnly makes d e
-  Handled (shut m books) (to_ask question) d e = e ≡ d
+  Handled (shut m books) to_open d e = Traced makes (opening_calls h m) d e
+  Handled a c d e = e ≡ d

@@ -4,5 +4,5 @@ pub mod Moments
 pub mod Calling
 pub mod Tally
 pub mod Handling
-pub mod Steps
+pub mod Paths
 pub mod Law

@@ -1,4 +1,4 @@
--- A depository between two calls. Assumes nothing.
+-- A depository between two calls.
 use Rattle.std.specs.Prelude.{Option}
 use Rattle.rulebook.specs.Terms.{Side}
 use Rattle.book.specs.Holdings.{Holdings}
@@ -12,25 +12,26 @@ use Rattle.engine.specs.View.{View, view}
 use Rattle.depository.specs.declared.condition.Condition.{Condition}
 use Rattle.depository.specs.declared.condition.Condition.TheVariants.{Running, Shut}
 use Rattle.depository.specs.declared.condition.Depository.{Depository}
-use Rattle.depository.specs.Slips.{kept_slip}
+use Rattle.depository.specs.Slips.{owed_contents}
 
 -- an engine, or the device and what the books hold
 pub data Phase : Type 0 where
   running : View → Phase
   shut : Medium → (Side → Holdings) → Phase
 
--- with what the last slip tells that is not unknown, if there is one
+-- with what the slip tells that is still owed, if there is one
 pub record Moment : Type 0 where
   pub phase : Phase
-  pub last : Option Contents
+  pub owed : Option Contents
 
 abbrev pub at : Phase → Option Contents → Moment
-at p l = record { phase = p; last = l }
+at p l = record { phase = p; owed = l }
 
 module _ {D R C : Type 0} {d : device.Ghosts D} {r : book.Ghosts R} {c : book.Ghosts C} where
   abbrev pub phase_of : Condition D R C d r c → Phase
   phase_of (Running e) = running (view d.medium e)
-  phase_of (Shut device register cash) = shut (d.medium device) (by_side (r.holdings register) (c.holdings cash))
+  phase_of (Shut device register cash) =
+      shut (d.medium device) (by_side (r.holdings register) (c.holdings cash))
 
   abbrev pub moment_of : {p : powered.Ghosts D} → Depository D R C p d r c → Moment
-  moment_of h = at (phase_of h.condition) (kept_slip h.last)
+  moment_of h = at (phase_of h.condition) (owed_contents h.owed)

@@ -1,4 +1,4 @@
--- What a call asks for, without where its bytes lie. Assumes nothing.
+-- What a call asks for, without where its bytes lie.
 use Rattle.std.specs.Prelude.{ℕ, List}
 use Rattle.instruction.specs.declared.Instruction.{Instruction}
 use Rattle.depository.specs.declared.calls.Question.{Question}

@@ -1,19 +1,19 @@
--- The slip that a depository keeps. Assumes nothing.
+-- The slip that a depository owes.
 use Rattle.std.specs.Prelude.{Some, None, Option, is_some, ◌≡◌}
 use Rattle.engine.specs.declared.slip.Slip.{Slip}
 use Rattle.engine.specs.declared.slip.Contents.{Contents}
 use Rattle.engine.specs.Slips.{contents}
 
--- what the slip tells, if one is kept
-abbrev pub kept_slip : Option Slip → Option Contents
-kept_slip None = None
-kept_slip (Some s) = contents s
+-- what the slip tells, if one is owed
+abbrev pub owed_contents : Option Slip → Option Contents
+owed_contents None = None
+owed_contents (Some s) = contents s
 
--- a slip that is kept tells something
+-- a slip that is owed tells something
 abbrev pub Known : Option Slip → Type 0
-Known slip = is_some slip ≡ is_some (kept_slip slip)
+Known slip = is_some slip ≡ is_some (owed_contents slip)
 
--- the last slip that is not unknown, after one more
+-- what is owed after one more slip: the new one, unless it tells nothing
 abbrev pub latest : Option Contents → Option Contents → Option Contents
 latest None before = before
 latest (Some c) before = Some c

@@ -31,8 +31,8 @@ pub enum Call<'a> {
     Ask(Question),
 }
 
-// What an open is answered: by the engine, with the entries that it found, and by the last slip that is not unknown, if
-// there is one, which is presented to it.
+// What an open is answered: by the engine, with the entries that it found, and by the slip that is
+// owed, if there is one, which is presented to it.
 #[derive(Clone, Copy)]
 pub struct Opened {
     pub answer: Result<(), Fault>,

@@ -12,10 +12,11 @@ pub enum Condition<D: PoweredDevice, R: Book, C: Book> {
     Shut(D, R, C),
 }
 
-// The last slip that is not unknown is owed until it is presented, so a depository cannot be forgotten while it has one.
+// A depository owes the last closing slip that is not unknown, until an engine judges it. It cannot
+// be forgotten while it owes one.
 #[derive(Drop)]
 pub struct Depository<D: PoweredDevice, R: Book, C: Book> {
     pub(crate) condition: Condition<D, R, C>,
-    pub(crate) last: Option<Slip>,
-    ghost known: { Known last },
+    pub(crate) owed: Option<Slip>,
+    ghost known: { Known owed },
 }

@@ -1,6 +1,6 @@
 // The end of a depository: what it owes is filed.
 ghost use Rattle.std.specs.Prelude.{◌≡◌};
-ghost use Rattle.depository.specs.Slips.{kept_slip};
+ghost use Rattle.depository.specs.Slips.{owed_contents};
 
 use crate::condition::{Condition, Depository};
 use book::Book;
@@ -8,12 +8,12 @@ use device::PoweredDevice;
 use engine::Contents;
 
 impl<D: PoweredDevice, R: Book, C: Book> Depository<D, R, C> {
-    // Gives back what the depository consists of, and files the slip that it still owes, if there is one.
+    // Gives back what the depository consists of, and files the slip that it still owes, if any.
     pub fn finish(self) -> (Condition<D, R, C>, Option<Contents>)
         ensures condition { result.0 ≡ self.condition }
-        ensures slip { result.1 ≡ kept_slip self.last }
+        ensures slip { result.1 ≡ owed_contents self.owed }
     {
-        let slip = match self.last {
+        let slip = match self.owed {
             Some(slip) => slip.file(),
             None => None,
         };

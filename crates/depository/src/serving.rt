@@ -1,30 +1,32 @@
 // A depository from its format on.
-ghost use Rattle.std.specs.Prelude.{◌≡◌, ◌+◌, ◌≤◌, MatchResult, [], None, length, map, vec_len, vec_capacity};
+ghost use Rattle.std.specs.Prelude.{◌≡◌, ◌+◌, ◌<◌, ◌≤◌, MatchResult, OnErr, [], None, length, map, vec_len, vec_capacity, alloc_error};
 ghost use Rattle.ledger.specs.View.{rulebook, by_side};
 ghost use Rattle.depository.specs.Orders.{order};
 ghost use Rattle.depository.specs.Moments.{shut, at, moment_of};
 ghost use Rattle.depository.specs.Handling.{device_of};
-ghost use Rattle.depository.specs.Steps.{Path};
-ghost use Rattle.depository.specs.Law.{Survives, Stopped};
+ghost use Rattle.depository.specs.Paths.{Path};
+ghost use Rattle.depository.specs.declared.stop.Stop.TheVariants.{NoMemory};
+ghost use Rattle.depository.specs.Law.{AfterFormat, Survives, Stopped};
 
 use crate::calls::{Call, Reply};
 use crate::condition::{Condition, Depository};
 use crate::stop::Stop;
+use answers::Fault;
 use book::Book;
 use device::{Device, PoweredDevice};
 use journal::format;
-use std::alloc::Global;
 
 impl<D: PoweredDevice, R: Book, C: Book> Depository<D, R, C> {
     // A depository that owes no slip.
     fn shut(device: D, register: R, cash: C) -> Self
         ensures moment { moment_of result
-            ≡ at (shut (D.Device.medium device) (by_side (R.holdings register) (C.holdings cash))) None }
+            ≡ at (shut (D.Device.medium device) (by_side (R.holdings register) (C.holdings cash)))
+            None }
         ensures device { device_of result.condition ≡ device }
     {
         Depository {
             condition: Condition::Shut(device, register, cash),
-            last: None,
+            owed: None,
         }
     }
 
@@ -32,9 +34,10 @@ impl<D: PoweredDevice, R: Book, C: Book> Depository<D, R, C> {
     fn run(self, calls: &[Call<'_>], replies: &mut Vec<Reply>) -> Self
         requires room { vec_len replies.old + length calls.now ≤ vec_capacity replies.old }
         requires none { replies.old.items ≡ [] }
-        ensures { Path D.makes D.Device.medium (rulebook R.fixed C.fixed) D.PoweredDevice.most
+        ensures path { Path D.makes D.Device.medium (rulebook R.fixed C.fixed) D.PoweredDevice.most
             (moment_of self) (device_of self.condition) (map order calls.now) replies.new.items
             (moment_of result) (device_of result.condition) }
+        ensures room { vec_capacity replies.new ≡ vec_capacity replies.old }
     {
         let mut depository = self;
         for call in calls {
@@ -55,35 +58,54 @@ impl<D: PoweredDevice, R: Book, C: Book> Depository<D, R, C> {
     }
 }
 
-// Formats a device for these books, and gives the depository the calls, one after another. It comes back whatever the answer,
-// and is finished by whoever called. Room for the answers is made before anything is done.
+// Formats a device for books of these kinds.
+fn format_for<D: Device, R: Book, C: Book>(
+    device: &mut D,
+    pairs: u32,
+    register: &R,
+    cash: &C,
+) -> Result<(), Fault>
+    ensures { AfterFormat D.makes D.medium (rulebook R.fixed C.fixed) pairs
+        device.old result device.new }
+{
+    format(device, pairs, register.kind(), cash.kind())
+}
+
+// Formats a device for these books, and gives the depository the calls, one after another. It comes
+// back whatever the answer, and is finished by whoever called. The answers go into `replies`, which
+// is emptied first; where it has room for them all, memory cannot be wanting.
 pub fn serve<D: PoweredDevice, R: Book, C: Book>(
-    heap: Global,
     mut device: D,
     pairs: u32,
     register: R,
     cash: C,
     calls: &[Call<'_>],
-) -> (Depository<D, R, C>, Result<Vec<Reply>, Stop>)
-    ensures { let h = rulebook R.fixed C.fixed in let means = D.Device.medium in
+    replies: &mut Vec<Reply>,
+) -> (Depository<D, R, C>, Result<(), Stop>)
+    ensures served { let h = rulebook R.fixed C.fixed in let means = D.Device.medium in
         let books = by_side (R.holdings register) (C.holdings cash) in
         let b = moment_of result.0 in let e = device_of result.0.condition in
         MatchResult result.1
-        (λ replies. Survives D.makes means h D.PoweredDevice.most pairs device books (map order calls.now) replies.items b e)
+        (λ _. Survives D.makes means h D.PoweredDevice.most pairs device books
+        (map order calls.now) replies.new.items b e)
         (λ stop. Stopped D.makes means h pairs device books stop b e) }
+    ensures room { result.1 ≡ Err (NoMemory alloc_error)
+        → vec_capacity replies.old < length calls.now }
+    ensures none { OnErr result.1 (replies.new.items ≡ []) }
+    ensures lent { vec_capacity replies.old ≤ vec_capacity replies.new }
 {
-    let mut replies = Vec::new(heap);
+    replies.clear();
     if let Err(error) = replies.reserve(calls.len()) {
         return (
             Depository::shut(device, register, cash),
             Err(Stop::NoMemory(error)),
         );
     }
-    let formatted = format(&mut device, pairs, register.kind(), cash.kind());
+    let formatted = format_for(&mut device, pairs, &register, &cash);
     let depository = Depository::shut(device, register, cash);
     if let Err(fault) = formatted {
         return (depository, Err(Stop::Refused(fault)));
     }
-    let depository = depository.run(calls, &mut replies);
-    (depository, Ok(replies))
+    let depository = depository.run(calls, replies);
+    (depository, Ok(()))
 }

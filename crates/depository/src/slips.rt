@@ -1,8 +1,8 @@
-// The slips of a depository: the last one that is not unknown is kept, and the others are filed.
+// The slips of a depository: the last one that is not unknown is owed, and the others are filed.
 ghost use Rattle.std.specs.Prelude.{◌≡◌};
 ghost use Rattle.engine.specs.View.{view};
 ghost use Rattle.engine.specs.Slips.{contents};
-ghost use Rattle.depository.specs.Slips.{kept_slip, latest, Known};
+ghost use Rattle.depository.specs.Slips.{owed_contents, latest, Known};
 ghost use Rattle.depository.specs.Calling.{slip_answer, owed_after};
 
 use answers::Refusal;
@@ -10,10 +10,10 @@ use book::Book;
 use device::Device;
 use engine::{Engine, Slip, Verdict};
 
-// The slip to keep, when one more is given.
+// The slip that is owed, when one more is given.
 pub(crate) fn latest(before: Option<Slip>, given: Slip) -> Option<Slip>
     requires { Known before }
-    ensures value { kept_slip result ≡ latest (contents given) (kept_slip before) }
+    ensures value { owed_contents result ≡ latest (contents given) (owed_contents before) }
     ensures known { Known result }
 {
     if !given.known() {
@@ -26,17 +26,19 @@ pub(crate) fn latest(before: Option<Slip>, given: Slip) -> Option<Slip>
     Some(given)
 }
 
-// The last slip that is not unknown is presented, if there is one. It comes back where the opening was refused.
+// The slip that is owed is presented, if there is one. It comes back where the opening was refused.
 pub(crate) fn present<D: Device, R: Book, C: Book>(
     engine: &Engine<D, R, C>,
-    last: Option<Slip>,
+    owed: Option<Slip>,
 ) -> (Option<Result<Verdict, Refusal>>, Option<Slip>)
-    requires { Known last }
-    ensures answer { let v = view D.medium engine.now in result.0 ≡ slip_answer v.mode v.found v.last (kept_slip last) }
-    ensures owed { kept_slip result.1 ≡ owed_after (view D.medium engine.now).mode (kept_slip last) }
+    requires { Known owed }
+    ensures answer { let v = view D.medium engine.now in
+        result.0 ≡ slip_answer v.mode v.found v.last (owed_contents owed) }
+    ensures owed { owed_contents result.1
+        ≡ owed_after (view D.medium engine.now).mode (owed_contents owed) }
     ensures known { Known result.1 }
 {
-    let Some(slip) = last else {
+    let Some(slip) = owed else {
         return (None, None);
     };
     match engine.present(slip) {

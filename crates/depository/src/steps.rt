@@ -1,5 +1,5 @@
-// One call at a time. A depository moves from call to call: what it is made of moves into an engine and out again. A call that
-// does not fit leaves it as it is.
+// One call at a time. A depository moves from call to call: what it is made of moves into an engine
+// and out again. A call that does not fit leaves it as it is.
 ghost use Rattle.std.specs.Prelude.{◌≡◌};
 ghost use Rattle.instruction.specs.Layout.{Fit};
 ghost use Rattle.ledger.specs.View.{rulebook};
@@ -8,7 +8,7 @@ ghost use Rattle.depository.specs.Orders.{to_instruct, to_close, to_restart, to_
 ghost use Rattle.depository.specs.Moments.{moment_of};
 ghost use Rattle.depository.specs.Calling.{told, Does};
 ghost use Rattle.depository.specs.Handling.{Handled, device_of};
-ghost use Rattle.depository.specs.Steps.{Step};
+ghost use Rattle.instruction.specs.declared.Instruction.{Instruction};
 
 use crate::calls::{Call, Fact, Opened, Question, Reply};
 use crate::condition::{Condition, Depository};
@@ -36,14 +36,15 @@ fn told<D: Device, R: Book, C: Book>(
 }
 
 impl<D: PoweredDevice, R: Book, C: Book> Depository<D, R, C> {
-    // In place, as a restart and a question: only what moves the device and the books takes the depository by value. That the instruction's
-    // fields fit is said too: a caller that took it from a call would not know it.
+    // In place, as a restart and a question: only what moves the device and the books takes the
+    // depository by value. That the instruction's fields fit is said too: a caller that took it
+    // from a call would not know it.
     pub(crate) fn instruct(&mut self, x: Instruction) -> Reply
         ensures fit { Fit x }
         ensures does { Does (rulebook R.fixed C.fixed) D.PoweredDevice.most
             (moment_of self.old) (to_instruct x) result (moment_of self.new) }
-        ensures device { Handled D.makes (rulebook R.fixed C.fixed) (moment_of self.old).phase (to_instruct x)
-            (device_of self.old.condition) (device_of self.new.condition) }
+        ensures device { Handled D.makes (rulebook R.fixed C.fixed) (moment_of self.old).phase
+            (to_instruct x) (device_of self.old.condition) (device_of self.new.condition) }
     {
         match &mut self.condition {
             Condition::Running(engine) => Reply::Instructed(engine.instruct(&x)),
@@ -57,22 +58,23 @@ impl<D: PoweredDevice, R: Book, C: Book> Depository<D, R, C> {
         ensures device { Handled D.makes (rulebook R.fixed C.fixed) (moment_of self).phase to_close
             (device_of self.condition) (device_of result.0.condition) }
     {
-        let Depository { condition, last } = self;
+        let Depository { condition, owed } = self;
         match condition {
             Condition::Running(engine) => {
                 let (device, register, cash, slip) = engine.close();
                 let condition = Condition::Shut(device, register, cash);
-                let last = latest(last, slip);
-                (Depository { condition, last }, Reply::Done)
+                let owed = latest(owed, slip);
+                (Depository { condition, owed }, Reply::Done)
             }
-            condition => (Depository { condition, last }, Reply::Misfit),
+            condition => (Depository { condition, owed }, Reply::Misfit),
         }
     }
 
     pub(crate) fn restart(&mut self, calls: u32, remains: &[u8]) -> Reply
         ensures does { Does (rulebook R.fixed C.fixed) D.PoweredDevice.most
             (moment_of self.old) (to_restart calls remains.now) result (moment_of self.new) }
-        ensures device { Handled D.makes (rulebook R.fixed C.fixed) (moment_of self.old).phase (to_restart calls remains.now)
+        ensures device { Handled D.makes (rulebook R.fixed C.fixed) (moment_of self.old).phase
+            (to_restart calls remains.now)
             (device_of self.old.condition) (device_of self.new.condition) }
     {
         match &mut self.condition {
@@ -90,22 +92,22 @@ impl<D: PoweredDevice, R: Book, C: Book> Depository<D, R, C> {
         ensures device { Handled D.makes (rulebook R.fixed C.fixed) (moment_of self).phase to_open
             (device_of self.condition) (device_of result.0.condition) }
     {
-        let Depository { condition, last } = self;
+        let Depository { condition, owed } = self;
         match condition {
             Condition::Shut(device, register, cash) => {
                 let engine = Engine::open(device, register, cash);
                 let answer = engine.opening();
                 let found = engine.found();
-                let (presented, last) = present(&engine, last);
+                let (presented, owed) = present(&engine, owed);
                 let condition = Condition::Running(engine);
                 let opened = Opened {
                     answer,
                     found,
                     presented,
                 };
-                (Depository { condition, last }, Reply::Opened(opened))
+                (Depository { condition, owed }, Reply::Opened(opened))
             }
-            condition => (Depository { condition, last }, Reply::Misfit),
+            condition => (Depository { condition, owed }, Reply::Misfit),
         }
     }
 
@@ -121,11 +123,12 @@ impl<D: PoweredDevice, R: Book, C: Book> Depository<D, R, C> {
     }
 
     // Gives one call, and answers it.
-    pub fn give(mut self, call: &Call<'_>) -> (Self, Reply)
-        ensures step { Step (rulebook R.fixed C.fixed) D.PoweredDevice.most
+    pub(crate) fn give(mut self, call: &Call<'_>) -> (Self, Reply)
+        ensures fit { (x : Instruction) → order call.now ≡ to_instruct x → Fit x }
+        ensures does { Does (rulebook R.fixed C.fixed) D.PoweredDevice.most
             (moment_of self) (order call.now) result.1 (moment_of result.0) }
-        ensures device { Handled D.makes (rulebook R.fixed C.fixed) (moment_of self).phase (order call.now)
-            (device_of self.condition) (device_of result.0.condition) }
+        ensures device { Handled D.makes (rulebook R.fixed C.fixed) (moment_of self).phase
+            (order call.now) (device_of self.condition) (device_of result.0.condition) }
     {
         match call {
             Call::Instruct(x) => {

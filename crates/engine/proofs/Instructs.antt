@@ -10,17 +10,15 @@ use Rattle.journal.specs.Journal.{enter_answer}
 use Rattle.engine.specs.declared.engine.Mode.{Mode}
 use Rattle.engine.specs.declared.engine.Mode.TheVariants.{Open, Down, Refused}
 use Rattle.engine.specs.View.{View}
-use Rattle.engine.specs.Instructing.{ready, room_for, checked, Accepted, Instructed}
+use Rattle.engine.specs.Instructing.{ready, room_for, checked, Accepted, Instructed, Passes}
 
 no-refusal : {e : Fault} {u : Unit {0}} → ◌≡◌ {A = Answer} (Err e) (Ok u) → ⊥
 no-refusal e =
     cc
 
 -- what the checks of an instruction tell where they let it pass
-pub record LetPass (h : Rulebook) (x : Instruction) (v : View) : Type 0 where
-  pub mode : v.mode ≡ Open
-  pub accepted : answer h v.standing x ≡ Ok tt
-  pub room : v.count < v.pairs
+abbrev pub LetPass : Rulebook → Instruction → View → Type 0
+LetPass h x v = Passes h x v
 
 ready-passes : (m : Mode) (x : Instruction) (next : Answer) → Ok tt ≡ ready m x next → (m ≡ Open) × (Ok tt ≡ next)
 ready-passes Open x next e = (refl, e)

@@ -1,6 +1,6 @@
 -- What an opening found, on a device that may hold anything.
 use Rattle.std.proofs.Common.{◌≡◌, ℕ, zero, suc, ◌+◌, ◌-◌, ◌*◌, ◌^◌, ◌<◌, ◌≤◌, Bool, true, false, cond, ◌&&◌, eqb, ltb, leb, List, [], ◌∷◌, ◌++◌, length, get_or, Some, None, Ok, Err, Option, Result, sym, refl, ap, ◌∙◌, subst, inl, inr, ⊎_elim, add-one, arith, lit<}
-use Rattle.std.proofs.lemmas.Bool.{cond-true, cond-false, eqb-true, ltb-false, and_parts, cases_Bool, cases_eq, both_ways}
+use Rattle.std.proofs.lemmas.Bool.{cond-true, cond-false, eqb-true, ltb-false, leb-true, and_parts, cases_Bool, cases_eq, both_ways}
 use Rattle.std.proofs.lemmas.List.{length_push, get_or_push, get_or_append_left}
 use Rattle.std.specs.Option.{unwrap_or}
 use Rattle.answers.specs.declared.Refusal.{Refusal}
@@ -23,7 +23,9 @@ use Rattle.engine.specs.declared.engine.Mode.TheVariants.{Open}
 use Rattle.engine.specs.View.{View}
 use Rattle.engine.specs.Opening.{Fits, headed, header_held, header_answer, after_header, scanned_as, opened_on, opened, header_for, last_of}
 use Rattle.engine.specs.Lasting.{record_says, entry_in, listed, written_by}
-use Rattle.engine.specs.Standing.{FoundOn, Opens, Prompt}
+use Rattle.engine.specs.Standing.{StandsOn, FoundOn, EntryRefused, ListRefused, Opens, Prompt}
+use Rattle.engine.proofs.Readings.{entry-two, header-spends}
+use Rattle.engine.proofs.Refusals.{same-fault, header-refuses, entry-refuses}
 use Rattle.engine.proofs.Finds.{last-more, mark-good, mark-tested, calls-find}
 use Rattle.engine.proofs.Openings.{fewer-calls, then-scanned}
 
@@ -219,32 +221,67 @@ module _ (h : Rulebook) (m : Medium) (b : Bounded m) where
         (λ x w o. scan-reads n (k + 1) (calls - 2) (effect s x) (Some x) found (omega arith) (one-more k s last x p w) o)
         (entry_answer h (with_calls calls m) s k) refl e
 
+  -- the entries that have been read stand
+  stand : (pairs k : ℕ) (s : Standing) (last : Option Instruction) → Heads h m pairs → k ≤ pairs → Prefix k s last → StandsOn h m pairs k s
+  stand pairs k s last w l p = record {
+    head = w.head;
+    some = w.some;
+    fits = w.fits;
+    within = l;
+    marks = p.marks;
+    records = p.records;
+    list = p.list;
+  }
+
+  module _ (pairs : ℕ) (w : Heads h m pairs) where
+    -- by what entry k answers, where it is known why what comes after it is refused
+    turn-refuses : (n k calls : ℕ) (s : Standing) (last : Option Instruction) (f : Fault) → k < pairs → m.left ≡ calls + (1 + 2 * k) → Prefix k s last
+        → ((x : Instruction) → ReadsEntry k s x → 2 ≤ calls → (onward pairs w.fits.few n k calls s x).outcome ≡ Err f → ListRefused h m f)
+        → (r : Result (Option Instruction) Fault) → entry_answer h (with_calls calls m) s k ≡ r
+        → (turn r (with_calls calls m) k s last (onward pairs w.fits.few n k calls s)).outcome ≡ Err f → ListRefused h m f
+    turn-refuses n k calls s last f l spent p after (Ok None) is e = absurd cc
+    turn-refuses n k calls s last f l spent p after (Ok (Some x)) is e = after x (entry-read k s calls x is) (entry-two h s k (with_calls calls m) x (sym is)) e
+    turn-refuses n k calls s last f l spent p after (Err g) is e = record {
+      pairs = pairs;
+      entry = k;
+      below = l;
+      standing = s;
+      before = stand pairs k s last w (omega arith) p;
+      refused = subst (λ x. EntryRefused h m k s x) (same-fault {X = Recovered} g f e) (entry-refuses h m b g k s (omega (arith, w.fits.few)) calls spent is);
+    }
+
+    scan-refuses : (n k calls : ℕ) (s : Standing) (last : Option Instruction) (f : Fault) → n + k ≡ pairs → m.left ≡ calls + (1 + 2 * k) → Prefix k s last
+        → (scan h n (with_calls calls m) k s last).outcome ≡ Err f → ListRefused h m f
+    unfolding scan
+    scan-refuses zero k calls s last f l spent p e = absurd cc
+    scan-refuses (suc n) k calls s last f l spent p e =
+        turn-refuses n k calls s last f (omega arith) spent p
+        (λ x r two o. scan-refuses n (k + 1) (calls - 2) (effect s x) (Some x) f (omega arith) (omega arith) (one-more k s last x p r) o)
+        (entry_answer h (with_calls calls m) s k) refl e
+
   -- by what the recovery answers
   scanned-well : (pairs : ℕ) (z : Scan) (r : Result Recovered Fault) → Heads h m pairs → ((found : Recovered) → r ≡ Ok found → Reads pairs z.standing found)
+      → ((f : Fault) → r ≡ Err f → ListRefused h m f)
       → Opens h m (scanned_as r pairs (with_calls z.left m) z.standing) (scanned_as r pairs (with_calls z.left m) z.standing).mode
-  scanned-well pairs z (Ok found) w reads =
+  scanned-well pairs z (Ok found) w reads refuses =
       let r = reads found refl in
       record {
-        head = w.head;
-        some = w.some;
-        fits = w.fits;
-        within = r.within;
-        marks = r.entries.marks;
-        records = r.entries.records;
+        entries = stand pairs found.count z.standing found.last w r.within r.entries;
         stop = r.stop;
-        list = r.entries.list;
         last = r.entries.is-last;
         count = refl;
       }
-  scanned-well pairs z (Err f) w reads = record { standing = refl; pairs = refl; found = refl; last = refl; count = refl }
+  scanned-well pairs z (Err f) w reads refuses = (record { standing = refl; pairs = refl; found = refl; last = refl; count = refl }, inr (refuses f refl))
 
   -- and by what the header's checks answer
-  headed-well : (n : ℕ) (r : Result ℕ Fault) → header_answer register money m ≡ r → Opens h m (opened_on h (with_calls n m) r) (opened_on h (with_calls n m) r).mode
-  headed-well n (Ok pairs) e =
+  headed-well : (n : ℕ) (r : Result ℕ Fault) → (0 < m.size → n ≡ m.left - 1) → header_answer register money m ≡ r → Opens h m (opened_on h (with_calls n m) r) (opened_on h (with_calls n m) r).mode
+  headed-well n (Ok pairs) spent e =
       let w = heads pairs e in
       let z = scan h pairs (with_calls n m) 0 empty None in
+      let calls : m.left ≡ n + (1 + 2 * 0) = omega (arith, spent (omega (arith, w.fits.within)), (header-spends register money pairs m (sym e)).0) in
       scanned-well pairs z z.outcome w (λ found o. scan-reads pairs w.fits.few pairs 0 n empty None found (omega arith) none-read o)
-  headed-well n (Err f) e = record { standing = refl; pairs = refl; found = refl; last = refl; count = refl }
+      (λ f o. scan-refuses pairs w pairs 0 n empty None f (omega arith) calls none-read o)
+  headed-well n (Err f) spent e = (record { standing = refl; pairs = refl; found = refl; last = refl; count = refl }, inl (header-refuses h m b f e))
 
 -- the list of the first n records has n instructions, each what its record says
 
@@ -286,14 +323,14 @@ module _ (h : Rulebook) (m : Medium) (w : View) (f : FoundOn h m w) where
   finds =
       let n = listed-length m w.found in
       record {
-        room = omega (arith, f.within);
-        marks = λ k l. f.marks k (omega arith);
+        room = omega (arith, f.entries.within);
+        marks = λ k l. f.entries.marks k (omega arith);
         records = λ k l.
-            let held = f.records k (omega arith) in
+            let held = f.entries.records k (omega arith) in
             let says : entry_in m k ≡ unwrap_or (read_in (record_in k (record_bytes k (entry_in m k)))) no_instruction = ap (λ o. unwrap_or (record_says k o) no_instruction) held in (
               record_bytes k (entry_in m k),
               held,
-              record-says k (entry_in m k) _ (omega (arith, f.within, f.fits.few)) refl says ∙ ap Some (sym (listed-at m w.found k (omega arith))),
+              record-says k (entry_in m k) _ (omega (arith, f.entries.within, f.entries.fits.few)) refl says ∙ ap Some (sym (listed-at m w.found k (omega arith))),
             );
         stop = λ l. subst (λ k. m.holds (mark_at k) ≡ Some (mark_bytes k) → ⊥) (sym n) (f.stop (omega arith));
       }
@@ -301,8 +338,8 @@ module _ (h : Rulebook) (m : Medium) (w : View) (f : FoundOn h m w) where
   promptly : Bounded m → (h.kind securities).code < 256 → (h.kind cash).code < 256 → 1 + 2 * w.pairs ≤ m.left → (opened h m).mode ≡ Open
   promptly b r c calls =
       let z = scan h w.pairs (drained 1 m) 0 empty None in
-      let ends = calls-find h w.pairs m (listed m w.found) w.standing f.fits.few b finds f.list (m.left - 1) in
-      ap (λ (v : View). v.mode) (then-scanned h w.pairs m f.some f.fits.few f.fits.within (λ none. omega arith) r c f.head)
+      let ends = calls-find h w.pairs m (listed m w.found) w.standing f.entries.fits.few b finds f.entries.list (m.left - 1) in
+      ap (λ (v : View). v.mode) (then-scanned h w.pairs m f.entries.some f.entries.fits.few f.entries.fits.within (λ none. omega arith) r c f.entries.head)
       ∙ ap (λ r. (scanned_as r w.pairs (with_calls z.left m) z.standing).mode) (ends.enough (omega arith))
 
 -- an opening only reads
@@ -316,11 +353,13 @@ opened-kept h m n (Ok pairs) = let z = scan h pairs (with_calls n m) 0 empty Non
 opened-kept h m n (Err f) = fewer-calls m n
 
 -- the device after the header's checks
-after-checked : (m : Medium) → (n : ℕ) × (after_header m ≡ with_calls n m)
+after-checked : (m : Medium) → (n : ℕ) × (after_header m ≡ with_calls n m) × (0 < m.size → n ≡ m.left - 1)
 after-checked m =
     elim (cases_Bool (leb m.size 0)) [
-      | inl z ↦ (m.left, cond-true (leb m.size 0) m (drained 1 m) z)
-      | inr some ↦ (m.left - 1, cond-false (leb m.size 0) m (drained 1 m) some)
+      | inl z ↦
+          let none = leb-true m.size 0 z in
+          (m.left, cond-true (leb m.size 0) m (drained 1 m) z, λ l. absurd (omega arith))
+      | inr some ↦ (m.left - 1, cond-false (leb m.size 0) m (drained 1 m) some, λ l. refl)
     ]
 
 -- What an opening found on any device, where that is so, and what it leaves of the device.
@@ -332,7 +371,7 @@ module _ (h : Rulebook) (m : Medium) where
   opens-well {v} is b =
       let a = after-checked m in
       let e : v ≡ opened_on h (with_calls a.0 m) checks = is ∙ ap (λ d. opened_on h d checks) a.1 in
-      subst (λ u. Opens h m u u.mode) (sym e) (headed-well h m b a.0 checks refl)
+      subst (λ u. Opens h m u u.mode) (sym e) (headed-well h m b a.0 checks a.2 refl)
 
   pub opens-keeping : {v : View} → v ≡ opened h m → SameBlocks m v.medium
   opens-keeping {v} is =

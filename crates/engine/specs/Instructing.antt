@@ -1,11 +1,12 @@
 -- What an instruction is answered, and what it leaves of the engine. Assumes nothing.
-use Rattle.std.specs.Prelude.{◌≡◌, ℕ, ◌+◌, cond, Ok, Err, nat_le}
-use Rattle.answers.specs.Numbers.{numbered}
+use Rattle.std.specs.Prelude.{◌≡◌, ℕ, ◌+◌, ◌<◌, cond, ◌&&◌, Some, None, Ok, Err, Option, ◌==◌, ◌≢◌, nat_le}
+use Rattle.answers.specs.Numbers.{numbered, number_of, fault_number}
+use Rattle.answers.specs.declared.Fault.{Fault}
 use Rattle.answers.specs.Faults.{in_entry}
 use Rattle.instruction.specs.declared.Instruction.{Instruction}
-use Rattle.rulebook.specs.Rules.{Rulebook, about, fault_of, verdict, effect}
+use Rattle.rulebook.specs.Rules.{Rulebook, about, fault_of, answer, verdict, effect}
 use Rattle.device.specs.Calls.{Answer, and_then}
-use Rattle.journal.specs.Journal.{enter_answer, Entered}
+use Rattle.journal.specs.Journal.{record_at, mark_at, enter_answer, Entered}
 use Rattle.journal.specs.Blocks.{record_bytes, mark_bytes}
 use Rattle.engine.specs.declared.engine.Mode.{Mode}
 use Rattle.engine.specs.declared.engine.Mode.TheVariants.{Open, Down, Refused}
@@ -63,3 +64,31 @@ LeftBy (Ok u) (Err f) x v v' = CutOff x v v'
 pub record Instructed (h : Rulebook) (x : Instruction) (v v' : View) (r : Answer) : Type 0 where
   pub answer : r ≡ instruct_answer h x v
   pub after : LeftBy (checked h x v) (enter_answer v.medium v.count) x v v'
+
+-- What the checks ask for: the engine is open, the rules accept the instruction, and an entry is left for it.
+pub record Passes (h : Rulebook) (x : Instruction) (v : View) : Type 0 where
+  pub mode : v.mode ≡ Open
+  pub accepted : answer h v.standing x ≡ Ok tt
+  pub room : v.count < v.pairs
+
+-- What a refused instruction names: its trade where its kind is 3 to 7, and no rule.
+pub record IsFaultOf (x : Instruction) (b k : Option ℕ) (f : Fault) : Type 0 where
+  pub block : f.block ≡ b
+  pub entry : f.entry ≡ k
+  pub trade : f.trade ≡ cond (nat_le 3 x.kind && nat_le x.kind 7) (Some x.trade) None
+  pub rule : f.rule ≡ None
+
+-- the block of the write that found no call left, by the calls left for an entry: that of its record, of its mark, or none
+-- where it was a sync
+abbrev pub cut_at : ℕ → ℕ → Option ℕ
+cut_at k left = cond (left == 0) (Some (record_at k)) (cond (left == 2) (Some (mark_at k)) None)
+
+-- The answer is 13 exactly where the checks pass and fewer than 4 calls are left. That instruction is then in hand, and the
+-- engine is down. Such a fault names the entry and the block; one of the checks names neither.
+pub record CutShort (h : Rulebook) (x : Instruction) (v v' : View) (r : Answer) : Type 0 where
+  pub only : fault_number r ≡ 13 → Passes h x v × (v.medium.left < 4)
+  pub always : Passes h x v → v.medium.left < 4 → fault_number r ≡ 13
+  pub hand : fault_number r ≡ 13 → v'.mode ≡ Down x
+  pub cut : (f : Fault) → r ≡ Err f → number_of f.refusal ≡ 13
+      → IsFaultOf x (cut_at v.count v.medium.left) (Some v.count) f
+  pub check : (f : Fault) → r ≡ Err f → number_of f.refusal ≢ 13 → IsFaultOf x None None f

@@ -1,5 +1,9 @@
 -- What slips hold, and the verdict on one. Assumes nothing.
-use Rattle.std.specs.Prelude.{◌≡◌, ℕ, ◌+◌, Bool, false, cond, ◌&&◌, Some, None, Option, ◌==◌, ◌≢◌}
+use Rattle.std.specs.Prelude.{◌≡◌, ℕ, ◌+◌, Bool, false, cond, ◌&&◌, Some, None, Ok, Err, Option, Result, ◌==◌, ◌≢◌}
+use Rattle.answers.specs.declared.Refusal.{Refusal}
+use Rattle.answers.specs.declared.Place.{Place}
+use Rattle.answers.specs.declared.Place.TheVariants.{Engine}
+use Rattle.answers.specs.Numbers.{number_of as refusal_number}
 use Rattle.instruction.specs.declared.Instruction.{Instruction}
 use Rattle.engine.specs.declared.slip.Slip.{Slip}
 use Rattle.engine.specs.declared.slip.Contents.{Contents}
@@ -23,6 +27,22 @@ number_of Same = 0
 number_of Stands = 1
 number_of Unknown = 53
 number_of Differs = 54
+
+-- and the part that gives them
+abbrev pub verdict_place : Verdict → Place
+verdict_place Same = Engine
+verdict_place Stands = Engine
+verdict_place Unknown = Engine
+verdict_place Differs = Engine
+
+-- the number of what a slip that is presented is answered: the verdict's, or the refusal's
+abbrev pub presented_number : Result Verdict Refusal → ℕ
+presented_number (Ok v) = number_of v
+presented_number (Err r) = refusal_number r
+
+-- no two of these answers share a number
+abbrev pub PresentedApart : Type 0
+PresentedApart = (a b : Result Verdict Refusal) → presented_number a ≡ presented_number b → a ≡ b
 
 abbrev pub same_fields : Instruction → Instruction → Bool
 same_fields x y =

@@ -1,12 +1,19 @@
 -- Which calls an engine makes to its device. Assumes nothing.
-use Rattle.std.specs.Prelude.{ℕ, ◌+◌, List, [], ◌∷◌, take}
+use Rattle.std.specs.Prelude.{ℕ, zero, suc, ◌+◌, cond, List, [], ◌∷◌, ◌++◌, take, Some, None, Ok, Err, Option, Result, nat_lt}
+use Rattle.answers.specs.declared.Fault.{Fault}
 use Rattle.instruction.specs.declared.Instruction.{Instruction}
 use Rattle.book.specs.Rulings.{on_ok}
 use Rattle.rulebook.specs.Rules.{Rulebook}
-use Rattle.device.specs.Traces.{DeviceCall, writing, syncing}
+use Rattle.device.specs.declared.TheConstants.{BLOCK}
+use Rattle.device.specs.Medium.{Medium}
+use Rattle.device.specs.Traces.{DeviceCall, reading, writing, syncing}
 use Rattle.journal.specs.Journal.{record_at, mark_at}
 use Rattle.journal.specs.Blocks.{record_bytes, mark_bytes}
+use Rattle.engine.specs.declared.engine.Recovered.{Recovered}
+use Rattle.engine.specs.declared.engine.Mode.{Mode}
+use Rattle.engine.specs.declared.engine.Mode.TheVariants.{Open, Down, Refused}
 use Rattle.engine.specs.View.{View}
+use Rattle.engine.specs.Opening.{opened}
 use Rattle.engine.specs.Instructing.{checked}
 
 -- those of an entry: record and sync, mark and sync, up to the first that finds no call left
@@ -16,3 +23,42 @@ entry_calls k x left = take (left + 1) (writing (record_at k) (record_bytes k x)
 -- those of an instruction: none where a check refuses it
 abbrev pub instruct_calls : Rulebook → Instruction → View → List DeviceCall
 instruct_calls h x v = on_ok (checked h x v) (entry_calls v.count x v.medium.left) []
+
+-- a read of a whole block
+abbrev pub block_read : ℕ → DeviceCall
+block_read b = reading b BLOCK
+
+-- the mark and the record of each of the first n entries, one entry after another
+unfoldable pub entry_reads : ℕ → List DeviceCall
+entry_reads zero = []
+entry_reads (suc n) = entry_reads n ++ (block_read (mark_at n) ∷ block_read (record_at n) ∷ [])
+
+-- of one entry: its mark, and its record unless the mark ends the list
+abbrev pub turn_reads : Result (Option Instruction) Fault → ℕ → List DeviceCall
+turn_reads (Ok None) k = block_read (mark_at k) ∷ []
+turn_reads (Ok (Some x)) k = block_read (mark_at k) ∷ block_read (record_at k) ∷ []
+turn_reads (Err f) k = block_read (mark_at k) ∷ block_read (record_at k) ∷ []
+
+-- of a list that ended well: its entries, and the mark that is not good, unless there is no further pair
+abbrev pub list_reads : ℕ → ℕ → List DeviceCall
+list_reads found pairs = entry_reads found ++ cond (nat_lt found pairs) (block_read (mark_at found) ∷ []) []
+
+-- of one that was refused: the entries up to the one that the fault names, or none where the header was refused
+abbrev pub refused_reads : Option ℕ → List DeviceCall
+refused_reads None = []
+refused_reads (Some k) = entry_reads (k + 1)
+
+-- what is read after the header, by what was found
+abbrev pub found_reads : Result Recovered Fault → ℕ → List DeviceCall
+found_reads (Ok found) pairs = list_reads found.count pairs
+found_reads (Err f) pairs = refused_reads f.entry
+
+-- and by what the engine is after the opening
+abbrev pub opened_reads : Mode → View → List DeviceCall
+opened_reads Open v = list_reads v.found v.pairs
+opened_reads (Down x) v = []
+opened_reads (Refused f) v = refused_reads f.entry
+
+-- Those of an opening: the header's, then mark and record of each entry, up to the first that finds no call left.
+abbrev pub opening_calls : Rulebook → Medium → List DeviceCall
+opening_calls h m = let v = opened h m in take (m.left + 1) (block_read 0 ∷ opened_reads v.mode v)

@@ -1,9 +1,10 @@
 // Instructing: what the rules accept is written first, and only then carried out.
-ghost use Rattle.std.specs.Prelude.{◌≡◌, ◌<◌, IfOk};
+ghost use Rattle.std.specs.Prelude.{◌≡◌, ◌<◌, IfOk, Ok};
+ghost use Rattle.journal.specs.Places.{EntryPlaces};
 ghost use Rattle.ledger.specs.View.{rulebook};
 ghost use Rattle.device.specs.Traces.{Traced};
 ghost use Rattle.engine.specs.View.{view};
-ghost use Rattle.engine.specs.Instructing.{checked, Instructed};
+ghost use Rattle.engine.specs.Instructing.{checked, Instructed, CutShort};
 ghost use Rattle.engine.specs.Tracing.{instruct_calls};
 
 use crate::engine::{Engine, Mode};
@@ -36,6 +37,10 @@ impl<D: Device, R: Book, C: Book> Engine<D, R, C> {
     pub fn instruct(&mut self, x: &Instruction) -> Result<(), Fault>
         ensures done { Instructed (rulebook R.fixed C.fixed) x.now
             (view D.medium self.old) (view D.medium self.new) result }
+        ensures cut { CutShort (rulebook R.fixed C.fixed) x.now
+            (view D.medium self.old) (view D.medium self.new) result }
+        ensures places { let v = view D.medium self.old in result ≡ Ok tt
+            → EntryPlaces v.count x.now v.medium (view D.medium self.new).medium }
         ensures trace { let v = view D.medium self.old in
             Traced D.makes (instruct_calls (rulebook R.fixed C.fixed) x.now v) self.old.device self.new.device }
     {

@@ -1,7 +1,8 @@
 // The closing slip: plain numbers, owed until it is presented or filed.
 ghost use Rattle.std.specs.Prelude.{◌≡◌, true, is_some};
-ghost use Rattle.engine.specs.Slips.{contents, IsOwed, judged, Judges, number_of, is_last};
+ghost use Rattle.engine.specs.Slips.{contents, IsOwed, judged, Judges, number_of, verdict_place, PresentedApart, is_last};
 
+use answers::Place;
 use instruction::Instruction;
 
 // What a slip tells: the number of standing entries, and the instruction in hand.
@@ -25,10 +26,21 @@ pub enum Verdict {
 }
 
 impl Verdict {
+    #[tactic(auto, using(crate::proofs::Verdicts::presented_apart))]
     pub fn number(self) -> u8
-        ensures { result ≡ number_of self }
+        ensures value { result ≡ number_of self }
+        ensures apart { PresentedApart }
     {
         self as u8
+    }
+
+    // The part that gives verdicts.
+    pub fn place(self) -> Place
+        ensures { result ≡ verdict_place self }
+    {
+        match self {
+            Verdict::Same | Verdict::Stands | Verdict::Unknown | Verdict::Differs => Place::Engine,
+        }
     }
 }
 

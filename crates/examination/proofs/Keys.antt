@@ -1,4 +1,4 @@
--- The key of a script. Assumes nothing.
+-- The key of a script.
 use Rattle.std.proofs.Common.{sym, ◌≡◌, ℕ, suc, ◌≤◌, List, [], ◌∷◌, length, drop, Result, refl, ap, ◌∙◌, subst}
 use Rattle.std.specs.List.{AllByRecursion}
 use Rattle.std.proofs.lemmas.List.{length-map}

@@ -9,10 +9,10 @@ use Rattle.device.specs.Images.{imaged}
 use Rattle.simulated.specs.declared.state.Simulated.{Simulated}
 use Rattle.simulated.specs.Rows.{is_loose, shown}
 use Rattle.simulated.specs.Meaning.{image_of, meaning, state_of, Makes}
-use Rattle.simulated.proofs.Kind.{fixed, reads}
+use Rattle.simulated.proofs.Kind.{fixed}
 use Rattle.journal.specs.Format.{format_answer}
 use Rattle.depository.proofs.Fixing.{Settled}
-use Rattle.depository.proofs.OneCourse.{one-answer}
+use Rattle.depository.proofs.OneAnswer.{one-answer}
 use Rattle.examination.specs.declared.answer.Answer.{Answer}
 use Rattle.depository.specs.declared.stop.Stop.{Stop}
 use Rattle.depository.specs.declared.stop.Stop.TheVariants.{Refused}
@@ -51,19 +51,13 @@ prints-refusal d script f stop text n es s et =
 both : {a b : List ℕ} {m n : ℕ} → a ≡ b → m ≡ n → ◌≡◌ {A = List ℕ × ℕ} (a, m) (b, n)
 both p q = λ i. (p i, q i)
 
-settled : Settled Makes meaning state_of image_of
-settled = record {
-  fixed = fixed;
-  reads = reads;
-  meaning = λ d e q. ap (λ (s : List ℕ × ℕ). imaged 514 shown is_loose s.0 s.1) q;
-  images = λ d e q. ap (λ (s : List ℕ × ℕ). s.0) q;
-  whole = λ d e image left. both image left;
-}
+settled : Settled Makes meaning state_of
+settled = record { fixed = fixed; meaning = λ d e q. ap (λ (s : List ℕ × ℕ). imaged 514 shown is_loose s.0 s.1) q }
 
 key-one : (script text other : List ℕ) → IsKey script text → IsKey script other → text ≡ other
 key-one script text other a b =
     let alike = both (a.new.image ∙ sym b.new.image) (a.new.calls ∙ sym b.new.calls) in
-    let replies = one-answer Makes meaning state_of image_of settled two_balances 4294967295 alike a.keyed.replied.survives b.keyed.replied.survives in
+    let replies = one-answer Makes meaning state_of settled two_balances 4294967295 alike a.keyed.replied.survives.run b.keyed.replied.survives.run in
     let answers = a.keyed.answers-are ∙ ap (λ rs. answers_for (requests_in script) (drop 1 rs)) replies ∙ sym b.keyed.answers-are in
     a.is ∙ ap (key_text 1) answers ∙ sym b.is
 

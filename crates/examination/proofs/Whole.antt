@@ -1,5 +1,5 @@
--- No answer of a key is a dash. Assumes nothing.
-use Rattle.std.proofs.Common.{◌≡◌, ℕ, suc, ◌+◌, ◌*◌, ◌<◌, ◌≤◌, true, List, [], ◌∷◌, length, get_or, drop, Some, None, Ok, Err, Option, Result, is_some, sym, refl, subst, arith}
+-- No answer of a key is a dash.
+use Rattle.std.proofs.Common.{◌≡◌, ℕ, ◌+◌, ◌*◌, ◌≤◌, true, List, [], ◌∷◌, drop, Some, None, Ok, Err, Option, Result, is_some, sym, refl, ap, ◌∙◌, subst, arith}
 use Rattle.std.specs.List.{flat_map, AllByRecursion}
 use Rattle.answers.specs.declared.Refusal.{Refusal}
 use Rattle.instruction.specs.declared.Instruction.{Instruction}
@@ -24,12 +24,15 @@ use Rattle.depository.specs.Orders.{Order, to_instruct, to_close, to_restart, to
 use Rattle.depository.specs.declared.calls.Question.TheVariants.{Securities, Money}
 use Rattle.depository.specs.declared.calls.Fact.TheVariants.{Holding as HoldingFact}
 use Rattle.depository.specs.declared.calls.Reply.{Reply}
-use Rattle.depository.specs.declared.calls.Reply.TheVariants.{Instructed, Told, Misfit}
+use Rattle.depository.specs.declared.calls.Reply.TheVariants.{Instructed, Told}
+use Rattle.depository.specs.declared.calls.Opened.{Opened}
 use Rattle.depository.specs.Slips.{latest}
 use Rattle.depository.specs.Moments.{running, shut, Moment, at}
 use Rattle.depository.specs.Calling.{Leads, slip_answer, owed_after, fact, Does}
-use Rattle.depository.specs.Law.{OpenedWell, PromptIn, Survives}
+use Rattle.depository.specs.Paths.{Path, done, onward}
+use Rattle.depository.specs.Law.{OpenedWell, Run, Survives}
 use Rattle.depository.proofs.Starts.{has-room}
+use Rattle.depository.proofs.Survival.{same-reply}
 use Rattle.examination.specs.Orders.{orders_of, orders_for}
 use Rattle.examination.specs.Answers.{answer_of, Whole, answers_for}
 
@@ -113,46 +116,57 @@ module _ (h : Rulebook) (most : ℕ) where
       let v = opened h f.after in
       went g (presented-some v.mode v.found v.last _ slip) (record { v = v; l = _; is = refl; owed = owed-opened v.mode _ slip })
 
-  abbrev Leading : (ℕ → Moment) → List Order → List Reply → Type 0
-  Leading moment cs rs = (i : ℕ) → i < length cs → Does h most (moment i) (get_or cs i to_close) (get_or rs i Misfit) (moment (suc i))
+  -- the first call of a path, and the rest of it
+  record Next {D : Type 0} (makes : D → DeviceCall → D → Type 0) (means : D → Medium) (a : Moment) (d : D) (c : Order) (cs : List Order) (rs : List Reply) (b : Moment) (e : D) : Type 0 where
+    moment : Moment
+    device : D
+    reply : Reply
+    replies : List Reply
+    is : rs ≡ reply ∷ replies
+    does : Does h most a c reply moment
+    path : Path makes means h most moment device cs replies b e
 
-  whole-lines : (qs : List (Result Request Refusal)) (rs : List Reply) (moment : ℕ → Moment) → Ready (moment 0) → length rs ≡ length (flat_map orders_of qs) → Leading moment (flat_map orders_of qs) rs → AllByRecursion Whole (answers_for qs rs)
-  whole-lines [] rs moment y n leads = tt
-  whole-lines (Err r ∷ qs) rs moment y n leads = (tt, whole-lines qs rs moment y n leads)
-  whole-lines (Ok (Instruct x) ∷ qs) [] moment y n leads = absurd (omega arith)
-  whole-lines (Ok (Instruct x) ∷ qs) (r ∷ rs) moment y n leads =
-      let w = instructed x y (leads 0 (omega arith)) in
-      (w.whole, whole-lines qs rs (λ i. moment (suc i)) w.ready (omega arith) (λ i lt. leads (suc i) (omega arith)))
-  whole-lines (Ok (Register p) ∷ qs) [] moment y n leads = absurd (omega arith)
-  whole-lines (Ok (Register p) ∷ qs) (r ∷ rs) moment y n leads =
-      let w = asked-securities p.account p.item y (leads 0 (omega arith)) in
-      (w.whole, whole-lines qs rs (λ i. moment (suc i)) w.ready (omega arith) (λ i lt. leads (suc i) (omega arith)))
-  whole-lines (Ok (Cash p) ∷ qs) [] moment y n leads = absurd (omega arith)
-  whole-lines (Ok (Cash p) ∷ qs) (r ∷ rs) moment y n leads =
-      let w = asked-money p.account p.item y (leads 0 (omega arith)) in
-      (w.whole, whole-lines qs rs (λ i. moment (suc i)) w.ready (omega arith) (λ i lt. leads (suc i) (omega arith)))
-  whole-lines (Ok (Cut c) ∷ qs) [] moment y n leads = absurd (omega arith)
-  whole-lines (Ok (Cut c) ∷ qs) (r ∷ []) moment y n leads = absurd (omega arith)
-  whole-lines (Ok (Cut c) ∷ qs) (r ∷ s ∷ []) moment y n leads = absurd (omega arith)
-  whole-lines (Ok (Cut c) ∷ qs) (r ∷ s ∷ t ∷ rs) moment y n leads =
-      let w = reopened (moment 1) (moment 2) r s c.calls (remains_of c) y (leads 0 (omega arith)) (leads 1 (omega arith)) (leads 2 (omega arith)) in
-      (w.whole, whole-lines qs rs (λ i. moment (suc (suc (suc i)))) w.ready (omega arith) (λ i lt. leads (suc (suc (suc i))) (omega arith)))
+  next : {D : Type 0} {makes : D → DeviceCall → D → Type 0} {means : D → Medium} {a b : Moment} {d e : D} {c : Order} {cs : List Order} {rs : List Reply} → Path makes means h most a d (c ∷ cs) rs b e → Next makes means a d c cs rs b e
+  next (onward {m = m} {e = e} {r = r} {rs = rs} s q) = record { moment = m; device = e; reply = r; replies = rs; is = refl; does = s.does; path = q }
 
-  -- a first opening that is answered 0 leaves an engine
-  first : {a b : Moment} (enough : ℕ) (r : Reply) (m : Medium) (books : Side → Holdings) → a ≡ at (shut m books) None → Does h most a to_open r b → PromptIn enough a.phase to_open r → enough ≤ m.left → Ready b
-  first {a} {b} enough r m books e d p calls =
-      let f = subst (λ z. Does h most z to_open r b) e d in
-      let well = subst (λ z. PromptIn enough z.phase to_open r) e p calls in
-      let zero = subst OpenedWell f.answer well in
-      let v = opened h m in
-      subst Ready (sym f.leads) (record { v = v; l = _; is = refl; owed = owed-well v.mode _ zero })
+  module _ {D : Type 0} (makes : D → DeviceCall → D → Type 0) (means : D → Medium) where
+    whole-lines : (qs : List (Result Request Refusal)) (rs : List Reply) (a : Moment) (d : D) (b : Moment) (e : D) → Path makes means h most a d (flat_map orders_of qs) rs b e → Ready a → AllByRecursion Whole (answers_for qs rs)
+    whole-lines [] rs a d b e q y = tt
+    whole-lines (Err r ∷ qs) rs a d b e q y = (tt, whole-lines qs rs a d b e q y)
+    whole-lines (Ok (Instruct x) ∷ qs) rs a d b e q y =
+        let n = next q in
+        let w = instructed x y n.does in
+        subst (λ z. AllByRecursion Whole (answers_for (Ok (Instruct x) ∷ qs) z)) (sym n.is) (w.whole, whole-lines qs n.replies n.moment n.device b e n.path w.ready)
+    whole-lines (Ok (Register p) ∷ qs) rs a d b e q y =
+        let n = next q in
+        let w = asked-securities p.account p.item y n.does in
+        subst (λ z. AllByRecursion Whole (answers_for (Ok (Register p) ∷ qs) z)) (sym n.is) (w.whole, whole-lines qs n.replies n.moment n.device b e n.path w.ready)
+    whole-lines (Ok (Cash p) ∷ qs) rs a d b e q y =
+        let n = next q in
+        let w = asked-money p.account p.item y n.does in
+        subst (λ z. AllByRecursion Whole (answers_for (Ok (Cash p) ∷ qs) z)) (sym n.is) (w.whole, whole-lines qs n.replies n.moment n.device b e n.path w.ready)
+    whole-lines (Ok (Cut c) ∷ qs) rs a d b e q y =
+        let one = next q in
+        let two = next one.path in
+        let three = next two.path in
+        let w = reopened one.moment two.moment one.reply two.reply c.calls (remains_of c) y one.does two.does three.does in
+        let is : rs ≡ one.reply ∷ two.reply ∷ three.reply ∷ three.replies = one.is ∙ ap (λ z. one.reply ∷ z) (two.is ∙ ap (λ z. two.reply ∷ z) three.is) in
+        subst (λ z. AllByRecursion Whole (answers_for (Ok (Cut c) ∷ qs) z)) (sym is) (w.whole, whole-lines qs three.replies three.moment three.device b e three.path w.ready)
 
-  pub whole-key : {D : Type 0} (makes : D → DeviceCall → D → Type 0) (means : D → Medium) (pairs : ℕ) (d : D) (books : Side → Holdings) (qs : List (Result Request Refusal)) (rs : List Reply) (b : Moment) (e : D) → Survives makes means h most pairs d books (orders_for qs) rs b e → 6 + 3 * pairs ≤ (means d).left
-      → AllByRecursion Whole (answers_for qs (drop 1 rs))
-  whole-key makes means pairs d books qs [] b e s calls = absurd (let n = s.course.answered in omega arith)
-  whole-key makes means pairs d books qs (r ∷ rs) b e s calls =
-      let c = s.course in
-      let left = (s.formatted.after (has-room pairs (means d) s.formatted.format)).left in
-      let y = first (1 + 2 * pairs) r (means s.device) books c.first (c.leads 0 (omega arith)) ((s.law s.course).enough 0 (omega arith)) (omega arith) in
-      let n = c.answered in
-      whole-lines qs rs (λ i. c.moment (suc i)) y (omega arith) (λ i lt. c.leads (suc i) (omega arith))
+    -- a first opening that is answered 0 leaves an engine
+    first : (m : Medium) (books : Side → Holdings) (r : Reply) (b : Moment) → Does h most (at (shut m books) None) to_open r b → OpenedWell r → Ready b
+    first m books r b d well =
+        let v = opened h m in
+        let same = same-reply (sym d.answer ∙ well.1) in
+        subst Ready (sym d.leads) (record { v = v; l = _; is = refl; owed = owed-well v.mode _ (ap (λ (o : Opened). o.answer) same ∙ well.2) })
+
+    pub whole-key : (pairs : ℕ) (d : D) (books : Side → Holdings) (qs : List (Result Request Refusal)) (rs : List Reply) (b : Moment) (e : D) → Survives makes means h most pairs d books (orders_for qs) rs b e → 6 + 3 * pairs ≤ (means d).left
+        → AllByRecursion Whole (answers_for qs (drop 1 rs))
+    whole-key pairs d books qs rs b e s calls =
+        let run = s.run in
+        let m = means run.device in
+        let n = next run.path in
+        let left = (run.formatted.after (has-room pairs (means d) run.formatted.format)).left in
+        let start : Run makes means h most pairs d books [] [] (at (shut m books) None) run.device = record { device = run.device; formatted = run.formatted; path = done refl } in
+        let well = (s.beyond [] [] (at (shut m books) None) run.device start).prompt m books refl (omega (arith, left, calls)) n.reply n.moment n.does in
+        subst (λ z. AllByRecursion Whole (answers_for qs (drop 1 z))) (sym n.is) (whole-lines qs n.replies n.moment n.device b e n.path (first m books n.reply n.moment n.does well))

@@ -1,4 +1,4 @@
--- What the lines of a script are answered, from the replies to their calls. Assumes nothing.
+-- What the lines of a script are answered, from the replies to their calls.
 use Rattle.std.specs.Prelude.{◌≡◌, ◌-◌, true, List, [], ◌∷◌, length, drop, Ok, Err, Result, is_some, slice_index_or}
 use Rattle.answers.specs.declared.Refusal.{Refusal}
 use Rattle.answers.specs.declared.Fault.{Fault}
@@ -40,8 +40,8 @@ Whole (Reopened o) = is_some o.presented ≡ true
 Whole (Refused r) = Unit {0}
 Whole Unasked = ⊥
 
--- the answer to a line that was read, from the replies to its calls and to those after them: the last of its own says it;
--- a line that was not read is refused
+-- the answer to a line that was read, from the replies to its calls and to those after them: the
+-- last of its own says it; a line that was not read is refused
 abbrev pub line_answer : Result Request Refusal → List Reply → Answer
 line_answer (Ok q) rs = answer_of (slice_index_or rs (length (orders_of (Ok q)) - 1) Misfit)
 line_answer (Err r) rs = Refused r

@@ -1,4 +1,4 @@
--- What the lines of a script ask of a depository. Assumes nothing.
+-- What the lines of a script ask of a depository.
 use Rattle.std.specs.Prelude.{ℕ, List, [], ◌∷◌, map, Ok, Err, Result}
 use Rattle.std.specs.List.{flat_map}
 use Rattle.answers.specs.declared.Refusal.{Refusal}
@@ -9,7 +9,8 @@ use Rattle.script.specs.Feeds.{lines_of}
 use Rattle.depository.specs.Orders.{Order, to_instruct, to_close, to_restart, to_open, to_ask}
 use Rattle.depository.specs.declared.calls.Question.TheVariants.{Securities, Money}
 
--- an instruction, or a question, is one call; a cut is a close, a restart and an open; a line that is refused asks for nothing
+-- an instruction, or a question, is one call; a cut is a close, a restart and an open; a line that is
+-- refused asks for nothing
 abbrev pub orders_of : Result Request Refusal → List Order
 orders_of (Ok (Instruct x)) = to_instruct x ∷ []
 orders_of (Ok (Register p)) = to_ask (Securities p.account p.item) ∷ []

@@ -1,4 +1,4 @@
--- The device and the books on which the program answers a script. Assumes nothing.
+-- The device and the books on which the program answers a script.
 use Rattle.std.specs.Prelude.{◌≡◌, ℕ, ◌<◌, ◌⊎◌, List, length, replicate}
 use Rattle.std.specs.List.{AllByRecursion}
 use Rattle.answers.specs.Numbers.{numbered}
@@ -11,7 +11,7 @@ use Rattle.simulated.specs.declared.state.Simulated.{Simulated}
 use Rattle.simulated.specs.Meaning.{image_of, meaning, Makes}
 use Rattle.examination.specs.declared.answer.Answer.{Answer}
 use Rattle.examination.specs.Answers.{Whole}
-use Rattle.examination.specs.Key.{Keyed}
+use Rattle.examination.specs.Key.{most_bytes, Keyed}
 use Rattle.examination.specs.Texts.{key_text, refused_text}
 
 unfoldable pub zero_bytes : ℕ → List ℕ
@@ -30,7 +30,8 @@ two_balances = rulebook balances_kind balances_kind
 abbrev pub no_holdings : Side → Holdings
 no_holdings = by_side nothing nothing
 
--- a key of a script on such a device, formatted with 63 pairs for these books, which a restart gives up to 4,294,967,295 calls
+-- a key of a script on such a device, formatted with 63 pairs for these books, which a restart gives
+-- up to 4,294,967,295 calls
 pub record IsKey (script text : List ℕ) : Type 0 where
   pub device : Simulated
   pub new : IsNew device
@@ -40,10 +41,12 @@ pub record IsKey (script text : List ℕ) : Type 0 where
   pub whole : AllByRecursion Whole answers
   pub is : text ≡ key_text 1 answers
 
--- What is printed for a script: the text of its key; or line 0 alone, where it has more than 65,536 bytes.
+-- What is printed for a script: the text of its key; or line 0 alone, where it is too long.
 abbrev pub Printed : List ℕ → List ℕ → Type 0
-Printed script text = IsKey script text ⊎ ((65536 < length script) × (text ≡ refused_text (numbered 73)))
+Printed script text =
+    IsKey script text ⊎ ((most_bytes < length script) × (text ≡ refused_text (numbered 73)))
 
 -- A script has one key and no more: no other text could be printed for it.
 pub record OneKey : Type 0 where
-  pub one : (script text other : List ℕ) → Printed script text → Printed script other → text ≡ other
+  pub one : (script text other : List ℕ)
+      → Printed script text → Printed script other → text ≡ other

@@ -1,28 +1,26 @@
--- The key as text. Assumes nothing.
-use Rattle.std.specs.Prelude.{ℕ, ◌+◌, List, [], ◌∷◌, ◌++◌, Some, None, Ok, Err, Option, Result, decimal}
+-- The key as text.
+use Rattle.std.specs.Prelude.{ℕ, ◌+◌, List, [], ◌∷◌, ◌++◌, Some, None, Option, Result, decimal}
 use Rattle.answers.specs.declared.Refusal.{Refusal}
 use Rattle.answers.specs.Numbers.{number_of, answer_number}
 use Rattle.engine.specs.declared.slip.Verdict.{Verdict}
-use Rattle.engine.specs.Slips.{number_of as verdict_number}
+use Rattle.engine.specs.Slips.{presented_number}
 use Rattle.examination.specs.declared.answer.Answer.{Answer}
 use Rattle.examination.specs.declared.answer.Answer.TheVariants.{Accepted, Amounts, Reopened, Refused, Unasked}
 
--- what a slip that is presented is answered: the verdict's number, or the refusal's
-abbrev pub presented_number : Result Verdict Refusal → ℕ
-presented_number (Ok v) = verdict_number v
-presented_number (Err r) = number_of r
-
--- the same, or a dash (45) where there is no slip
+-- what a slip that is presented is answered, or a dash (45) where there is no slip
 abbrev pub presented_then : Option (Result Verdict Refusal) → List ℕ → List ℕ
 presented_then (Some p) rest = decimal (presented_number p) ++ rest
 presented_then None rest = 45 ∷ rest
 
--- An answer, and what is written after it: 0, with free and blocked after a question, or the refusal's number. After a cut, what
--- the opening was answered, the count found, and what the slip was. A dash is for what no line asks.
+-- An answer, and what is written after it: 0, with free and blocked after a question, or the
+-- refusal's number. After a cut, what the opening was answered, the count found, and what the slip
+-- was. A dash is for what no line asks.
 abbrev pub answer_then : Answer → List ℕ → List ℕ
 answer_then Accepted rest = 48 ∷ rest
 answer_then (Amounts f) rest = 48 ∷ 32 ∷ (decimal f.free ++ (32 ∷ (decimal f.blocked ++ rest)))
-answer_then (Reopened o) rest = decimal (answer_number o.answer) ++ (32 ∷ (decimal o.found ++ (32 ∷ presented_then o.presented rest)))
+answer_then (Reopened o) rest =
+    decimal (answer_number o.answer)
+    ++ (32 ∷ (decimal o.found ++ (32 ∷ presented_then o.presented rest)))
 answer_then (Refused r) rest = decimal (number_of r) ++ rest
 answer_then Unasked rest = 45 ∷ rest
 

@@ -1,10 +1,11 @@
 // An examination: a script of lines is given to a depository, and what it answers is the key.
 #![tactic(auto)]
 
-ghost use Rattle.std.specs.Prelude.{◌≡◌, MatchResult, map};
+ghost use Rattle.std.specs.Prelude.{◌≡◌, ◌≤◌, MatchResult, Err, length, map, vec_capacity};
 ghost use Rattle.ledger.specs.View.{rulebook, by_side};
+ghost use Rattle.journal.specs.Format.{format_answer};
 ghost use Rattle.depository.specs.Orders.{order};
-ghost use Rattle.examination.specs.Key.{Replied, Unserved, Keyed, Stopped};
+ghost use Rattle.examination.specs.Key.{Replied, Keyed, Stopped};
 
 mod answer;
 mod lines;
@@ -12,7 +13,7 @@ mod program;
 pub mod text;
 
 pub use answer::{Answer, Reopening};
-use answers::Refusal;
+use answers::{Fault, Refusal};
 use book::Book;
 pub use depository::Stop;
 use depository::{Call, Reply, serve};
@@ -24,26 +25,34 @@ use std::alloc::Global;
 // The most bytes that a script may have.
 const LONGEST: usize = 65536;
 
-// Formats a device for these books and gives the depository the calls. Whatever it owes in the end is filed.
+// Formats a device for these books and gives the depository the calls, for whose replies there is
+// room. Whatever it owes in the end is filed.
 fn replies_to<D: PoweredDevice + Drop, R: Book + Drop, C: Book + Drop>(
-    heap: Global,
     device: D,
     pairs: u32,
     register: R,
     cash: C,
     calls: &[Call<'_>],
-) -> Result<Vec<Reply>, Stop>
+    replies: &mut Vec<Reply>,
+) -> Result<(), Fault>
+    requires room { length calls.now ≤ vec_capacity replies.old }
     ensures { let means = D.Device.medium in let books = by_side (R.holdings register) (C.holdings cash) in
         MatchResult result
-        (λ replies. Replied D.makes means (rulebook R.fixed C.fixed) D.PoweredDevice.most pairs device books (map order calls.now) replies.items)
-        (λ stop. Unserved pairs (means device) stop) }
+        (λ _. Replied D.makes means (rulebook R.fixed C.fixed) D.PoweredDevice.most pairs device books
+        (map order calls.now) replies.new.items)
+        (λ fault. format_answer pairs (means device) ≡ Err fault) }
 {
-    let (depository, served) = serve(heap, device, pairs, register, cash, calls);
+    let (depository, served) = serve(device, pairs, register, cash, calls, replies);
     let _ = depository.finish();
-    Ok(served?)
+    match served {
+        Ok(()) => Ok(()),
+        Err(Stop::Refused(fault)) => Err(fault),
+        Err(Stop::NoMemory(_)) => unreachable!(),
+    }
 }
 
-// Gives a script to a depository over this device and these books, and makes an answer to each line of what it replies.
+// Gives a script to a depository over this device and these books, and makes an answer to each line
+// of what it replies. Memory is asked for before any call is given.
 pub fn answer_script<D: PoweredDevice + Drop, R: Book + Drop, C: Book + Drop>(
     heap: Global,
     device: D,
@@ -62,7 +71,19 @@ pub fn answer_script<D: PoweredDevice + Drop, R: Book + Drop, C: Book + Drop>(
     }
     let requests = read_requests(heap, script)?;
     let calls = calls_for(heap, requests.as_slice())?;
-    let replies = replies_to(heap, device, pairs, register, cash, calls.as_slice())?;
-    let answers = answers_for(heap, requests.as_slice(), replies.as_slice())?;
+    let mut replies = Vec::with_capacity(heap, calls.len())?;
+    let mut answers = Vec::with_capacity(heap, requests.len())?;
+    let served = replies_to(
+        device,
+        pairs,
+        register,
+        cash,
+        calls.as_slice(),
+        &mut replies,
+    );
+    if let Err(fault) = served {
+        return Err(Stop::Refused(fault));
+    }
+    answers_for(requests.as_slice(), replies.as_slice(), &mut answers);
     Ok(answers)
 }

@@ -1,5 +1,5 @@
 // The lines of a script: what each asks for, the calls that this takes, and the answer that the replies to them make.
-ghost use Rattle.std.specs.Prelude.{◌≡◌, ◌++◌, IfOk, OnOk, map, length, drop};
+ghost use Rattle.std.specs.Prelude.{◌≡◌, ◌+◌, ◌<◌, ◌≤◌, [], ◌++◌, IfOk, OnOk, OnErr, map, length, drop, vec_len, vec_capacity};
 ghost use Rattle.depository.specs.Orders.{order};
 ghost use Rattle.examination.specs.Orders.{orders_of, orders_for, requests_in};
 ghost use Rattle.examination.specs.Answers.{line_answer, answers_for};
@@ -20,9 +20,13 @@ pub(crate) fn read_requests(heap: Global, script: &[u8]) -> Result<Vec<Read>, Al
     Lines::new(script).map(|line| read_line(line)).collect(heap)
 }
 
-// Adds the calls of a line, which keep to its remains.
+// Adds the calls of a line, which keep to its remains. Where there is room for them, memory cannot be
+// wanting.
 fn add_calls<'a>(calls: &mut Vec<Call<'a>>, request: &'a Read) -> Result<(), AllocError>
-    ensures { OnOk result (map order calls.new.items ≡ map order calls.old.items ++ orders_of request.now) }
+    ensures added { OnOk result
+        (map order calls.new.items ≡ map order calls.old.items ++ orders_of request.now) }
+    ensures room { OnErr result
+        (vec_capacity calls.old < vec_len calls.old + length (orders_of request.now)) }
 {
     match request {
         Ok(Request::Instruct(x)) => calls.push(Call::Instruct(*x))?,
@@ -92,19 +96,15 @@ fn past(replies: &[Reply], count: usize) -> &[Reply]
     replies.get(count..).unwrap_or(&[])
 }
 
-// One answer to each line. The first reply is to the opening before them.
-pub(crate) fn answers_for(
-    heap: Global,
-    requests: &[Read],
-    replies: &[Reply],
-) -> Result<Vec<Answer>, AllocError>
-    ensures { IfOk result (λ v. v.items ≡ answers_for requests.now (drop 1 replies.now)) }
+// One answer to each line, for which there is room. The first reply is to the opening before them.
+pub(crate) fn answers_for(requests: &[Read], replies: &[Reply], answers: &mut Vec<Answer>)
+    requires room { vec_len answers.old + length requests.now ≤ vec_capacity answers.old }
+    requires none { answers.old.items ≡ [] }
+    ensures { answers.new.items ≡ answers_for requests.now (drop 1 replies.now) }
 {
-    let mut answers = Vec::with_capacity(heap, requests.len())?;
     let mut rest = past(replies, 1);
     for request in requests {
-        answers.push(line_answer(request, rest))?;
+        answers.push_reserved(line_answer(request, rest));
         rest = past(rest, call_count(request));
     }
-    Ok(answers)
 }

@@ -38,8 +38,8 @@ fn new_book(heap: Global) -> Result<Box<Balances>, AllocError>
     Ok(Box::new(heap, Balances::new())?)
 }
 
-// Answers a script on a new device and with new books, and gives what is to be printed: the whole key, or line 0 where the script
-// is too long. The format of this device is never refused.
+// Answers a script on a new device and with new books, and gives what is to be printed: the whole key,
+// or line 0 where the script is too long. The format of this device is never refused.
 #[tactic(auto, using(crate::proofs::Prints::one_key))]
 pub fn examine(heap: Global, script: &[u8]) -> Result<String, AllocError>
     ensures text { IfOk result (λ text. Printed script.now (string_bytes text)) }

@@ -1,6 +1,7 @@
 // The key as text. Functions, and no `Display`, since a contract says which bytes each text is.
 ghost use Rattle.std.specs.Prelude.{◌≡◌, IfOk, string_bytes};
-ghost use Rattle.examination.specs.Texts.{presented_number, line_text, key_text, refused_text};
+ghost use Rattle.engine.specs.Slips.{presented_number};
+ghost use Rattle.examination.specs.Texts.{line_text, key_text, refused_text};
 ghost use Rattle.examination.specs.declared.answer.Answer.TheVariants.{Reopened};
 
 use crate::answer::{Answer, Reopening};

@@ -2,4 +2,5 @@ pub mod Survives
 pub mod Trips
 pub mod Blanks
 pub mod Fresh
+pub mod Placing
 pub mod Tracks

@@ -2,3 +2,4 @@ pub mod Journal
 pub mod Blocks
 pub mod Reading
 pub mod Format
+pub mod Places

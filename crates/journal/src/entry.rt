@@ -2,6 +2,7 @@
 // are made and read by functions, since the entry's number goes into each.
 ghost use Rattle.std.specs.Prelude.{◌≡◌};
 ghost use Rattle.journal.specs.Blocks.{mark_bytes, is_mark, record_bytes, record_in};
+ghost use Rattle.journal.specs.Places.{MarkPlaces, RecordPlaces};
 ghost use Rattle.journal.specs.Reading.{ReadsMark, ReadsRecord};
 
 use answers::Refusal;
@@ -9,7 +10,8 @@ use instruction::Instruction;
 use little_endian::LittleEndian;
 
 pub fn mark_block(entry: u32) -> [u8; 256]
-    ensures { result ≡ mark_bytes entry }
+    ensures value { result ≡ mark_bytes entry }
+    ensures places { MarkPlaces entry result }
 {
     let number: [u8; 4] = entry.to_little_endian();
     let complement: [u8; 4] = (u32::MAX - entry).to_little_endian();
@@ -27,7 +29,8 @@ pub fn is_good_mark(block: &[u8; 256], entry: u32) -> bool
 }
 
 pub fn record_block(entry: u32, x: &Instruction) -> [u8; 256]
-    ensures { result ≡ record_bytes entry x.now }
+    ensures value { result ≡ record_bytes entry x.now }
+    ensures places { RecordPlaces entry x.now result }
 {
     let number: [u8; 4] = entry.to_little_endian();
     let mut block = [0; 256];

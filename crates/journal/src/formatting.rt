@@ -4,6 +4,7 @@ ghost use Rattle.std.specs.Prelude.{◌≡◌, ◌+◌, ◌*◌, ◌<◌, ◌≤
 ghost use Rattle.device.specs.Traces.{Traced, writing, syncing};
 ghost use Rattle.journal.specs.Blocks.{header_bytes, layout};
 ghost use Rattle.journal.specs.Journal.{Journal};
+ghost use Rattle.journal.specs.Places.{FormatPlaces};
 ghost use Rattle.journal.specs.Format.{header_for, no_room, format_answer, Formatted, keep_answer, Kept, blank_answer, Blanked, mark_writes, format_calls};
 
 use crate::header::{Header, MOST_PAIRS};
@@ -49,6 +50,8 @@ pub fn format<D: Device>(device: &mut D, pairs: u32, register: u8, cash: u8) -> 
         (D.medium device.old) (D.medium device.new) }
     ensures trace { Traced D.makes (format_calls (header_bytes (header_for register cash pairs)) pairs
         (D.medium device.old).size (D.medium device.old).left) device.old device.new }
+    ensures places { result ≡ Ok tt
+        → FormatPlaces register cash pairs (D.medium device.old) (D.medium device.new) }
     ensures journal { result ≡ Ok tt
         → Journal (layout (header_for register cash pairs)) (D.medium device.new) [] None }
 {

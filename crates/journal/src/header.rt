@@ -1,6 +1,7 @@
 // The header of a journal: the kinds of its two books, and its number of pairs.
 ghost use Rattle.std.specs.Prelude.{◌≡◌};
 ghost use Rattle.journal.specs.Blocks.{header_bytes, header_in};
+ghost use Rattle.journal.specs.Places.{HeaderPlaces};
 ghost use Rattle.journal.specs.Reading.{ReadsHeader};
 
 use crate::zeros::all_zero;
@@ -21,7 +22,8 @@ pub struct Header {
 // Both ways are methods, by names that say what the bytes are.
 impl Header {
     pub fn to_block(self) -> [u8; 256]
-        ensures { result ≡ header_bytes self }
+        ensures value { result ≡ header_bytes self }
+        ensures places { HeaderPlaces self.register self.cash self.pairs result }
     {
         let pairs: [u8; 4] = self.pairs.to_little_endian();
         let mut block = [0; 256];

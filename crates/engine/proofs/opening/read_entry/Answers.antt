@@ -2,7 +2,6 @@ use Rattle.std.proofs.Common.{arith, rules}
 use Rattle.std.proofs.lemmas.Result.{err_from_is_err_and}
 use Rattle.std.proofs.lemmas.Grind.{common_steps}
 use Rattle.engine.proofs.Errors.{mapped}
-use Rattle.device.proofs.Traces.{read-one}
 use Rattle.engine.proofs.opening.read_entry.Goals as goal
 
 pub returns-in_err-map_err-clause-answer : goal.returns-in_err-map_err-clause-answer
@@ -17,9 +16,3 @@ returns-clause-answer g c = search rules
 
 pub returns-clause-after : goal.returns-clause-after
 returns-clause-after g c = search rules
-
-pub returns-in_err-map_err-clause-reads : goal.returns-in_err-map_err-clause-reads
-returns-in_err-map_err-clause-reads g c = read-one g.D.Device.makes _ _ c.read.ensures.kind
-
-pub returns-clause-reads : goal.returns-clause-reads
-returns-clause-reads g c = read-one g.D.Device.makes _ _ c.read.ensures.kind

@@ -1,11 +1,11 @@
-use Rattle.std.proofs.Common.{◌≡◌, Ok, sym, ◌∙◌, rules}
+use Rattle.std.proofs.Common.{◌≡◌, true, Ok, sym, ◌∙◌, rules}
 use Rattle.std.proofs.lemmas.Result.{err_from_is_err_and}
 use Rattle.rulebook.specs.Rules.{answer}
 use Rattle.rulebook.proofs.Givens.{accepted}
 use Rattle.ledger.specs.View.{rulebook, standing_of}
 use Rattle.ledger.proofs.Carried.{accepts}
 use Rattle.engine.proofs.Errors.{mapped}
-use Rattle.device.proofs.Traces.{read-on}
+use Rattle.engine.proofs.Readings.{mark-spends, both-read}
 use Rattle.engine.proofs.opening.replay_entry.Goals as goal
 
 pub returns-in_err-map_err-clause-books : goal.returns-in_err-map_err-clause-books
@@ -24,11 +24,19 @@ returns-clause-books g c =
     let is : c.instruct.result ≡ Ok tt = search rules in
     c.instruct.ensures.after.after ∙ accepted h s x (accepts x (answer h s x) (sym c.instruct.ensures.answer ∙ is))
 
-pub returns-in_err-x-clause-reads : goal.returns-in_err-x-clause-reads
-returns-in_err-x-clause-reads g c = read-on g.D.Device.makes c.read_mark.ensures.reads c.read_entry.ensures.reads
+pub returns-in_err-x-clause-trace : goal.returns-in_err-x-clause-trace
+returns-in_err-x-clause-trace g c =
+    let p = err_from_is_err_and c.from_residual-in_err-x.result c.from_residual-in_err-x.ensures.1 in
+    let some = mark-spends (g.D.Device.medium c.args.device.now) c.args.entry true (search rules) in
+    rw p.1 (both-read g.D.Device.makes _ _ some c.read_mark.ensures.trace c.read_entry.ensures.trace)
 
-pub returns-in_err-map_err-clause-reads : goal.returns-in_err-map_err-clause-reads
-returns-in_err-map_err-clause-reads g c = read-on g.D.Device.makes c.read_mark.ensures.reads c.read_entry.ensures.reads
+pub returns-in_err-map_err-clause-trace : goal.returns-in_err-map_err-clause-trace
+returns-in_err-map_err-clause-trace g c =
+    let p = err_from_is_err_and c.from_residual-in_err-map_err.result c.from_residual-in_err-map_err.ensures.1 in
+    let some = mark-spends (g.D.Device.medium c.args.device.now) c.args.entry true (search rules) in
+    rw p.1 (both-read g.D.Device.makes _ _ some c.read_mark.ensures.trace c.read_entry.ensures.trace)
 
-pub returns-clause-reads : goal.returns-clause-reads
-returns-clause-reads g c = read-on g.D.Device.makes c.read_mark.ensures.reads c.read_entry.ensures.reads
+pub returns-clause-trace : goal.returns-clause-trace
+returns-clause-trace g c =
+    let some = mark-spends (g.D.Device.medium c.args.device.now) c.args.entry true (search rules) in
+    both-read g.D.Device.makes _ _ some c.read_mark.ensures.trace c.read_entry.ensures.trace

@@ -3,6 +3,7 @@ use Rattle.std.proofs.lemmas.Grind.{common_steps}
 use Rattle.journal.specs.Blocks.{header_bytes}
 use Rattle.journal.specs.Format.{header_for, no_room, Formatted}
 use Rattle.journal.proofs.Fresh.{cut-first, cut-second, all-steps, fresh-journal}
+use Rattle.journal.proofs.Placing.{format-placed}
 use Rattle.journal.proofs.Tracks.{track-first, track-second, track-all}
 use Rattle.journal.proofs.formatting.format.Goals as goal
 
@@ -52,13 +53,14 @@ returns g c =
     let room : no_room c.args.pairs before.size ≡ false = grind arith in
     let ended : c.args.pairs < (g.D.Device.medium c.keep.new.device).left = grind arith in
     let f : Formatted (header_bytes h) c.args.pairs before after =
-    all-steps _ _ c.keep.ensures.after begun c.blank_marks.ensures.after (omega arith) (rw c.to_block.ensures at c.keep-2.ensures.after) in
+    all-steps _ _ c.keep.ensures.after begun c.blank_marks.ensures.after (omega arith) (rw c.to_block.ensures.value at c.keep-2.ensures.after) in
     record {
       answer = grind (arith, common_steps);
       refused = λ full. absurd (grind arith);
       after = λ r. f;
       trace = track-all (header_bytes h) c.args.pairs before.size before.left room g.D.Device.makes _ _ c.keep.ensures.trace _
           (omega (arith, left, begun)) _ c.blank_marks.ensures.trace _
-          (omega (arith, c.blank_marks.ensures.after.left, ended)) _ (rw c.to_block.ensures at c.keep-2.ensures.trace);
+          (omega (arith, c.blank_marks.ensures.after.left, ended)) _ (rw c.to_block.ensures.value at c.keep-2.ensures.trace);
+      places = λ done. format-placed c.args.register c.args.cash c.args.pairs before after (omega arith) (grind arith) f;
       journal = λ done. fresh-journal h before after (omega arith) (grind arith) f;
     }

@@ -1,10 +1,11 @@
-use Rattle.std.proofs.Common.{[], sym, ap, subst, rules}
+use Rattle.std.proofs.Common.{◌≡◌, [], ◌∷◌, ◌++◌, get_or, vec_items, sym, ap, subst, rules}
 use Rattle.ledger.specs.View.{rulebook}
-use Rattle.depository.specs.Orders.{to_instruct, to_restart, to_ask, order}
+use Rattle.depository.specs.declared.calls.Call.TheVariants.{Instruct, Restart, Ask}
+use Rattle.depository.specs.Orders.{Order, to_instruct, to_restart, to_ask, order}
 use Rattle.depository.specs.Moments.{moment_of}
 use Rattle.depository.specs.Handling.{device_of}
-use Rattle.depository.specs.Steps.{Path, done}
-use Rattle.depository.proofs.Runs.{next-call, next-order, asked-only, all-calls, means-it, sound}
+use Rattle.depository.specs.Paths.{Path, done}
+use Rattle.depository.proofs.Runs.{unasked, fit-of, next-call, next-order, asked-only, all-calls, means-it}
 use Rattle.depository.proofs.condition.Depository.run.Goals as goal
 use Rattle.depository.proofs.condition.Depository.run.Goals.{in-Instruct, in-Restart, in-Ask, in_default}
 
@@ -13,47 +14,62 @@ loop-call-init g c =
     let a = moment_of c.args.self in
     let d = device_of c.args.self.condition in
     let start = subst (λ ys. Path g.D.Device.makes g.D.Device.medium (rulebook g.R.Book.fixed g.C.Book.fixed) g.D.PoweredDevice.most a d [] ys a d) (sym c.requires.none) (done (means-it c.args.self.condition)) in
-    (search rules, search rules, start)
+    (search rules, search rules, search rules, start)
 
+-- The call that is made is the next of the list, and its reply goes to the end of the replies.
 pub loop-call-preserved : goal.loop-call-preserved
 loop-call-preserved g c =
     let i = c.loop-call.invariant in
     let p = c.push_reserved.ensures in
     let before = c.loop-call.depository.condition in
+    let calls = c.args.calls.now in
+    let n = c.loop-call.call-index in
+    let makes = g.D.Device.makes in
+    let means = g.D.Device.medium in
+    let h = rulebook g.R.Book.fixed g.C.Book.fixed in
+    let most = g.D.PoweredDevice.most in
+    let old = vec_items c.loop-call.replies in
+    let new = vec_items c.push_reserved.new.self in
     elim c.match-call.branch [
       | in-Instruct w ↦
-          let e = w.instruct-reply.ensures in (
+          let e = w.instruct-reply.ensures in
+          let o : Order = to_instruct w.in-Instruct.x in
+          let next : get_or calls n unasked ≡ Instruct w.in-Instruct.x = assumption (w.in-Instruct.is) in
+          let answered : new ≡ old ++ (w.instruct-reply.result ∷ []) = rw w.reply-is at p.items in (
             search rules,
             search rules,
-            rw w.depository-is
-                (next-order g.D.Device.makes g.D.Device.medium (rulebook g.R.Book.fixed g.C.Book.fixed) g.D.PoweredDevice.most _ c.args.calls.now c.loop-call.call-index (to_instruct w.in-Instruct.x) w.instruct-reply.result c.loop-call-test.true i.2 (ap order w.in-Instruct.is) e.does
-                (sound g.met.D.Device.bounds before) e.fit e.device (means-it w.instruct-reply.new.self.condition) (rw w.reply-is at p.items)),
+            search rules,
+            rw w.depository-is (next-order makes means h most unasked calls n o w.instruct-reply.result c.loop-call-test.true i.3 (ap order next) (fit-of w.in-Instruct.x e.fit) e.does e.device (means-it w.instruct-reply.new.self.condition) answered),
           )
       | in-Restart w ↦
-          let e = w.restart-reply.ensures in (
+          let e = w.restart-reply.ensures in
+          let o : Order = to_restart w.in-Restart.calls w.in-Restart.remains.now in
+          let next : get_or calls n unasked ≡ Restart w.in-Restart.calls w.in-Restart.remains = assumption (w.in-Restart.is) in
+          let answered : new ≡ old ++ (w.restart-reply.result ∷ []) = rw w.reply-is at p.items in (
             search rules,
             search rules,
-            rw w.depository-is
-                (next-order g.D.Device.makes g.D.Device.medium (rulebook g.R.Book.fixed g.C.Book.fixed) g.D.PoweredDevice.most _ c.args.calls.now c.loop-call.call-index (to_restart w.in-Restart.calls w.in-Restart.remains.now) w.restart-reply.result c.loop-call-test.true i.2 (ap order w.in-Restart.is) e.does
-                (sound g.met.D.Device.bounds before) tt e.device (means-it w.restart-reply.new.self.condition) (rw w.reply-is at p.items)),
+            search rules,
+            rw w.depository-is (next-order makes means h most unasked calls n o w.restart-reply.result c.loop-call-test.true i.3 (ap order next) (λ x same. absurd cc) e.does e.device (means-it w.restart-reply.new.self.condition) answered),
           )
-      | in-Ask w ↦ (
-        search rules,
-        search rules,
-        rw w.depository-is
-            (next-order g.D.Device.makes g.D.Device.medium (rulebook g.R.Book.fixed g.C.Book.fixed) g.D.PoweredDevice.most _ c.args.calls.now c.loop-call.call-index (to_ask w.in-Ask.question) w.ask-reply.result c.loop-call-test.true i.2 (ap order w.in-Ask.is) w.ask-reply.ensures
-            (sound g.met.D.Device.bounds before) tt (asked-only g.D.Device.makes g.D.Device.medium (rulebook g.R.Book.fixed g.C.Book.fixed) g.D.PoweredDevice.most _ _ _) (means-it before) (rw w.reply-is at p.items)),
-      )
+      | in-Ask w ↦
+          let o : Order = to_ask w.in-Ask.question in
+          let next : get_or calls n unasked ≡ Ask w.in-Ask.question = assumption (w.in-Ask.is) in
+          let answered : new ≡ old ++ (w.ask-reply.result ∷ []) = rw w.reply-is at p.items in (
+            search rules,
+            search rules,
+            search rules,
+            rw w.depository-is (next-order makes means h most unasked calls n o w.ask-reply.result c.loop-call-test.true i.3 (ap order next) (λ x same. absurd cc) w.ask-reply.ensures (asked-only makes means h most _ _ _) (means-it before) answered),
+          )
       | in_default w ↦
-          let e = w.give-next.ensures in (
+          let e = w.give-next.ensures in
+          let answered : new ≡ old ++ (w.give-next.result.1 ∷ []) = rw w.reply-is at p.items in (
             search rules,
             search rules,
-            rw w.depository-is
-                (next-call g.D.Device.makes g.D.Device.medium (rulebook g.R.Book.fixed g.C.Book.fixed) g.D.PoweredDevice.most _ c.args.calls.now c.loop-call.call-index c.loop-call-test.true i.2 e.step e.device
-                (means-it w.give-next.result.0.condition) (rw w.reply-is at p.items)),
+            search rules,
+            rw w.depository-is (next-call makes means h most unasked calls n w.give-next.result.1 c.loop-call-test.true i.3 e.fit e.does e.device (means-it w.give-next.result.0.condition) answered),
           )
     ]
 
-pub returns : goal.returns
-returns g c =
-    all-calls g.D.Device.makes g.D.Device.medium (rulebook g.R.Book.fixed g.C.Book.fixed) g.D.PoweredDevice.most c.args.calls.now c.loop-call.call-index c.loop-call-test.false c.loop-call.invariant.2
+pub returns-clause-path : goal.returns-clause-path
+returns-clause-path g c =
+    assumption (all-calls g.D.Device.makes g.D.Device.medium (rulebook g.R.Book.fixed g.C.Book.fixed) g.D.PoweredDevice.most c.args.calls.now c.loop-call.call-index c.loop-call-test.false c.loop-call.invariant.3)

@@ -1,7 +1,10 @@
-use Rattle.std.proofs.Common.{◌∙◌}
+use Rattle.std.proofs.Common.{◌≡◌, ◌-◌, sym, ap, ◌∙◌}
 use Rattle.ledger.specs.View.{rulebook}
-use Rattle.device.proofs.Traces.{read-on}
+use Rattle.device.specs.Medium.{Medium}
+use Rattle.engine.specs.View.{view}
+use Rattle.engine.specs.Opening.{refused_as}
 use Rattle.engine.proofs.Opens.{headed}
+use Rattle.engine.proofs.Readings.{header-spends, header-unnamed, header-read, header-then, opening-traced}
 use Rattle.engine.proofs.Standings.{opens-well, opens-keeping, opens-promptly}
 use Rattle.engine.proofs.engine.Engine.open.Goals as goal
 
@@ -39,8 +42,20 @@ pub returns-in-Err-clause-kept : goal.returns-in-Err-clause-kept
 returns-in-Err-clause-kept g c =
     opens-keeping (rulebook g.R.Book.fixed g.C.Book.fixed) (g.D.Device.medium c.args.device) (returns-in-Err-clause-opened g c)
 
-pub returns-in-Ok-clause-reads : goal.returns-in-Ok-clause-reads
-returns-in-Ok-clause-reads g c = read-on g.D.Device.makes c.in-Ok.ensures.reads c.recovered.ensures.reads
+pub returns-in-Ok-clause-trace : goal.returns-in-Ok-clause-trace
+returns-in-Ok-clause-trace g c =
+    let h = rulebook g.R.Book.fixed g.C.Book.fixed in
+    let m = g.D.Device.medium c.args.device in
+    let e = c.in-Ok.ensures in
+    let spent = header-spends _ _ c.in-Ok.pairs m e.answer in
+    let left : (g.D.Device.medium c.read_header.new.device).left ≡ m.left - 1 = ap (λ (d : Medium). d.left) (e.after ∙ spent.1) in
+    opening-traced g.D.Device.makes h m (view g.D.Device.medium c.recovered.result) _ _ (returns-in-Ok-clause-opened g c)
+    (header-then g.D.Device.makes m.left _ _ _ _ spent.0 e.trace (rw left at c.recovered.ensures.trace))
 
-pub returns-in-Err-clause-reads : goal.returns-in-Err-clause-reads
-returns-in-Err-clause-reads g c = rw c.refused.ensures.device c.in-Err.ensures.reads
+pub returns-in-Err-clause-trace : goal.returns-in-Err-clause-trace
+returns-in-Err-clause-trace g c =
+    let m = g.D.Device.medium c.args.device in
+    let e = c.in-Err.ensures in
+    opening-traced g.D.Device.makes (rulebook g.R.Book.fixed g.C.Book.fixed) m (refused_as c.in-Err.fault (g.D.Device.medium c.read_header.new.device)) _ _
+    (sym c.refused.ensures.refused ∙ returns-in-Err-clause-opened g c)
+    (rw c.refused.ensures.device (header-read g.D.Device.makes m.left c.in-Err.fault (header-unnamed _ _ m c.in-Err.fault e.answer) e.trace))

@@ -1,5 +1,7 @@
 use Rattle.std.proofs.Common.{◌∙◌}
+use Rattle.engine.specs.View.{view}
 use Rattle.engine.proofs.Opens.{scanned}
+use Rattle.engine.proofs.Readings.{refused-traced}
 use Rattle.engine.proofs.engine.Engine.recovered.Goals as goal
 
 pub returns-clause-opened : goal.returns-clause-opened
@@ -8,5 +10,6 @@ returns-clause-opened g c = scanned c.args.pairs (rw c.requires.empty at c.in-Ok
 pub returns-in-Err-clause-opened : goal.returns-in-Err-clause-opened
 returns-in-Err-clause-opened g c = c.refused.ensures.refused ∙ scanned c.args.pairs (rw c.requires.empty at c.in-Err.ensures.scanned)
 
-pub returns-in-Err-clause-reads : goal.returns-in-Err-clause-reads
-returns-in-Err-clause-reads g c = rw c.refused.ensures.device c.in-Err.ensures.reads
+pub returns-in-Err-clause-trace : goal.returns-in-Err-clause-trace
+returns-in-Err-clause-trace g c =
+    refused-traced g.D.Device.makes _ (view g.D.Device.medium c.refused.result) c.in-Err.fault _ _ _ c.refused.ensures.refused (rw c.refused.ensures.device c.in-Err.ensures.trace)

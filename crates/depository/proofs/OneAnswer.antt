@@ -1,5 +1,5 @@
--- Over a device of which nothing is left open, calls have one course, and so one list of answers.
-use Rattle.std.proofs.Common.{◌≡◌, ℕ, zero, suc, ◌<◌, ◌≤◌, List, length, get_or, None, Ok, Err, Option, sym, ap, ◌∙◌, subst, ext_get_or, arith}
+-- Over a device of which nothing is left open, calls have one list of answers.
+use Rattle.std.proofs.Common.{◌≡◌, ℕ, List, ◌∷◌, None, Ok, Err, Option, sym, refl, ap, ◌∙◌, subst}
 use Rattle.instruction.specs.declared.Instruction.{Instruction}
 use Rattle.book.specs.Holdings.{Holdings}
 use Rattle.rulebook.specs.Terms.{Side}
@@ -7,7 +7,7 @@ use Rattle.rulebook.specs.Rules.{Rulebook}
 use Rattle.device.specs.Medium.{Medium}
 use Rattle.device.specs.Calls.{Answer}
 use Rattle.device.specs.Traces.{DeviceCall, restarting, Traced}
-use Rattle.device.proofs.Traces.{traced-fixed, traced-reads}
+use Rattle.device.proofs.Traces.{traced-fixed}
 use Rattle.journal.specs.Blocks.{header_bytes}
 use Rattle.journal.specs.Format.{format_calls}
 use Rattle.journal.specs.Journal.{enter_answer}
@@ -15,15 +15,16 @@ use Rattle.engine.specs.declared.slip.Contents.{Contents}
 use Rattle.engine.specs.View.{View}
 use Rattle.engine.specs.Opening.{header_for}
 use Rattle.engine.specs.Instructing.{checked, LeftBy}
-use Rattle.engine.specs.Tracing.{instruct_calls}
+use Rattle.engine.specs.Tracing.{instruct_calls, opening_calls}
 use Rattle.depository.specs.declared.calls.Reply.{Reply}
-use Rattle.depository.specs.declared.calls.Reply.TheVariants.{Instructed, Misfit}
+use Rattle.depository.specs.declared.calls.Reply.TheVariants.{Instructed}
 use Rattle.depository.specs.Orders.{Order, to_instruct, to_close, to_restart, to_open, to_ask}
 use Rattle.depository.specs.Moments.{Phase, running, shut, Moment, at}
 use Rattle.depository.specs.Calling.{Leads, Does}
 use Rattle.depository.specs.Handling.{medium_in, Handled}
 use Rattle.depository.proofs.Fixing.{Settled}
-use Rattle.depository.specs.Law.{Course, Survives}
+use Rattle.depository.specs.Paths.{Path, done, onward}
+use Rattle.depository.specs.Law.{Run}
 
 view-same : {v w : View} → v.mode ≡ w.mode → v.medium ≡ w.medium → v.standing ≡ w.standing → v.pairs ≡ w.pairs → v.found ≡ w.found → v.last ≡ w.last → v.count ≡ w.count → v ≡ w
 view-same mode medium standing pairs found last count =
@@ -37,7 +38,12 @@ view-one (Ok u) (Ok t) x v v₁ v₂ one two e =
 view-one (Ok u) (Err f) x v v₁ v₂ one two e =
     view-same (one.mode ∙ sym two.mode) e (one.standing ∙ sym two.standing) (one.pairs ∙ sym two.pairs) (one.found ∙ sym two.found) (one.last ∙ sym two.last) (one.count ∙ sym two.count)
 
-module _ {D S I : Type 0} (makes : D → DeviceCall → D → Type 0) (means : D → Medium) (seen : D → S) (image : D → I) (z : Settled makes means seen image) (h : Rulebook) (most : ℕ) where
+-- what a path's first device means
+starts-at : {D : Type 0} {makes : D → DeviceCall → D → Type 0} {means : D → Medium} {h : Rulebook} {most : ℕ} {a b : Moment} {d e : D} {cs : List Order} {rs : List Reply} → Path makes means h most a d cs rs b e → means d ≡ medium_in a.phase
+starts-at (done is) = is
+starts-at (onward s q) = s.means-it
+
+module _ {D S : Type 0} (makes : D → DeviceCall → D → Type 0) (means : D → Medium) (seen : D → S) (z : Settled makes means seen) (h : Rulebook) (most : ℕ) where
   -- two ends of a call
   record Same (r r' : Reply) (b b' : Moment) (e e' : D) : Type 0 where
     reply : r ≡ r'
@@ -83,44 +89,28 @@ module _ {D S I : Type 0} (makes : D → DeviceCall → D → Type 0) (means : D
           device = p;
         }
     shut-one m books l to_open one two k k' =
-        let i = traced-reads makes image z.reads k.0 k.1 d e k.2 in
-        let i' = traced-reads makes image z.reads k'.0 k'.1 d' e' k'.2 in
-        let left : (means e).left ≡ (means e').left = ap (λ n. n.left) (t ∙ ap (λ n. medium_in n.phase) (one.leads ∙ sym two.leads) ∙ sym t') in
-        still one two (z.whole e e' (i ∙ z.images d d' s ∙ sym i') left)
+        still one two (traced-fixed makes seen z.fixed (opening_calls h m) d d' e e' k k' s)
     shut-one m books l (to_ask q) one two k k' = still one two (kept-device k k' s)
 
     step-one : (a : Phase) (l : Option Contents) (c : Order) → Does h most (at a l) c r b → Does h most (at a l) c r' b' → Handled makes h a c d e → Handled makes h a c d' e' → Same r r' b b' e e'
     step-one (running v) l c one two k k' = running-one v l c one two k k'
     step-one (shut m books) l c one two k k' = shut-one m books l c one two k k'
 
-  module _ {a : Moment} {d d' : D} {cs : List Order} {rs rs' : List Reply} {b b' : Moment} {e e' : D} (s : seen d ≡ seen d') (one : Course makes means h most a d cs rs b e) (two : Course makes means h most a d' cs rs' b' e') where
-    -- both courses are at the same moment, and their devices are seen alike
-    record Alike (i : ℕ) : Type 0 where
-      moment : one.moment i ≡ two.moment i
-      device : seen (one.device i) ≡ seen (two.device i)
-
-    next-alike : (i : ℕ) → i < length cs → Alike i → Same (get_or rs i Misfit) (get_or rs' i Misfit) (one.moment (suc i)) (two.moment (suc i)) (one.device (suc i)) (two.device (suc i))
-    next-alike i lt k =
-        let c = get_or cs i to_close in
-        let does = subst (λ n. Does h most n c (get_or rs' i Misfit) (two.moment (suc i))) (sym k.moment) (two.leads i lt) in
-        let handled = subst (λ n. Handled makes h n.phase c (two.device i) (two.device (suc i))) (sym k.moment) (two.handled i lt) in
-        step-one k.device (one.means-it (suc i) (omega arith)) (two.means-it (suc i) (omega arith)) (one.moment i).phase (one.moment i).last c (one.leads i lt) does (one.handled i lt) handled
-
-    alike : (i : ℕ) → i ≤ length cs → Alike i
-    alike zero le = record { moment = one.first ∙ sym two.first; device = ap seen one.first-device ∙ s ∙ ap seen (sym two.first-device) }
-    alike (suc i) le =
-        let n = next-alike i (omega arith) (alike i (omega arith)) in
-        record { moment = n.moment; device = n.device }
-
-    replies-one : rs ≡ rs'
-    replies-one = ext_get_or Misfit rs rs' (one.answered ∙ sym two.answered) (λ i lt. (next-alike i (omega (arith, one.answered)) (alike i (omega (arith, one.answered)))).reply)
+  -- two paths of the same calls have the same answers
+  alike : {a : Moment} {d d' : D} {cs : List Order} {rs rs' : List Reply} {b b' : Moment} {e e' : D} → seen d ≡ seen d' → Path makes means h most a d cs rs b e → Path makes means h most a d' cs rs' b' e' → rs ≡ rs'
+  alike s (done is) (done is') = refl
+  alike s (onward {a = a} {m = m} {d = d} {e = e} {c = c} {r = r} {cs = cs} {rs = rs} t p) (onward {m = m'} {b = b'} {e = e'} {f = f'} {r = r'} {rs = rs'} t' p') =
+      let n = step-one s (starts-at p) (starts-at p') a.phase a.owed c t.does t'.does t.handled t'.handled in
+      let q = subst (λ k. Path makes means h most k e' cs rs' b' f') (sym n.moment) p' in
+      let rest = alike n.device p q in
+      λ i. n.reply i ∷ rest i
 
   -- the answers to calls from a format on are fixed by what is seen of the device before it
-  pub one-answer : {pairs : ℕ} {d d' : D} {books : Side → Holdings} {cs : List Order} {rs rs' : List Reply} {b b' : Moment} {e e' : D} → seen d ≡ seen d'
-      → Survives makes means h most pairs d books cs rs b e → Survives makes means h most pairs d' books cs rs' b' e' → rs ≡ rs'
+  pub one-answer : {pairs : ℕ} {d d' : D} {books : Side → Holdings} {cs : List Order} {rs rs' : List Reply} {b b' : Moment} {e e' : D} → seen d ≡ seen d' → Run makes means h most pairs d books cs rs b e
+      → Run makes means h most pairs d' books cs rs' b' e' → rs ≡ rs'
   one-answer {pairs} {d} {d'} {books} {cs} {rs} {rs'} {b} {b'} {e} {e'} s one two =
       let calls : Medium → List DeviceCall = λ m. format_calls (header_bytes (header_for h pairs)) pairs m.size m.left in
       let also = subst (λ m. Traced makes (calls m) d' two.device) (sym (z.meaning d d' s)) two.formatted.trace in
       let q = traced-fixed makes seen z.fixed (calls (means d)) d d' one.device two.device one.formatted.trace also s in
-      let start = subst (λ m. Course makes means h most (at (shut m books) None) two.device cs rs' b' e') (sym (z.meaning one.device two.device q)) two.course in
-      replies-one q one.course start
+      let start = subst (λ m. Path makes means h most (at (shut m books) None) two.device cs rs' b' e') (sym (z.meaning one.device two.device q)) two.path in
+      alike q one.path start

@@ -1,0 +1,226 @@
+-- The law of survival, along a path.
+use Rattle.std.proofs.Common.{◌+◌, ◌*◌, ◌≡◌, ℕ, ◌<◌, ◌≤◌, List, [], ◌∷◌, Some, None, Ok, Err, Option, sym, refl, ap, ◌∙◌, subst, arith}
+use Rattle.std.specs.Option.{option_or}
+use Rattle.answers.specs.declared.Fault.{Fault}
+use Rattle.answers.specs.Numbers.{number_of}
+use Rattle.instruction.specs.declared.Instruction.{Instruction}
+use Rattle.instruction.specs.Layout.{Fit}
+use Rattle.book.specs.Holdings.{Holdings}
+use Rattle.rulebook.specs.Terms.{Side, securities, cash}
+use Rattle.rulebook.specs.Rules.{Rulebook}
+use Rattle.rulebook.proofs.Whole.{law-of-the-ledger}
+use Rattle.device.specs.Medium.{Medium, Bounded}
+use Rattle.device.specs.Calls.{Answer}
+use Rattle.device.specs.Traces.{DeviceCall}
+use Rattle.journal.specs.Journal.{Journal, enter_answer}
+use Rattle.engine.specs.declared.engine.Mode.{Mode}
+use Rattle.engine.specs.declared.engine.Mode.TheVariants.{Open, Down, Refused}
+use Rattle.engine.specs.declared.slip.Contents.{Contents}
+use Rattle.engine.specs.View.{View}
+use Rattle.engine.specs.Asking.{opening_answer, told_by}
+use Rattle.engine.specs.Instructing.{checked, LeftBy}
+use Rattle.engine.specs.Lasting.{listed, written_by}
+use Rattle.engine.specs.Opening.{opened}
+use Rattle.engine.proofs.Openings.{listed-is}
+use Rattle.depository.specs.Orders.{Order, to_instruct, to_close, to_restart, to_open, to_ask}
+use Rattle.depository.specs.declared.calls.Reply.{Reply}
+use Rattle.depository.specs.declared.calls.Reply.TheVariants.{Misfit, Opened as OpenedReply}
+use Rattle.depository.specs.declared.calls.Opened.{Opened}
+use Rattle.depository.specs.Slips.{latest}
+use Rattle.depository.specs.Moments.{Phase, running, shut, Moment, at}
+use Rattle.depository.specs.Handling.{medium_in}
+use Rattle.depository.specs.Calling.{Leads, Does, slip_answer, owed_after, opened_reply}
+use Rattle.depository.specs.Tally.{Tally, feed, fresh, tally, tally_from}
+use Rattle.depository.specs.Paths.{Path, done, onward, closing_told, last_closing}
+use Rattle.depository.specs.Law.{Stands, Judged, OpenedWell, Law, Beyond}
+use Rattle.depository.proofs.Kept.{Paired, InEngine, KeptBy, KeptIn, Kept}
+use Rattle.depository.proofs.Instructed.{instructed}
+use Rattle.depository.proofs.Reopened.{closed, restarted, reopened}
+
+-- What is owed, against what the last closing told: an engine that is open or down owes what it likes, since its own slip will
+-- tell something.
+abbrev pub OwesBy : Option Contents → Mode → Option Contents → Type 0
+OwesBy told Open l = Unit {0}
+OwesBy told (Down x) l = Unit {0}
+OwesBy told (Refused f) l = l ≡ told
+
+abbrev pub Owes : Option Contents → Phase → Option Contents → Type 0
+Owes told (running v) l = OwesBy told v.mode l
+Owes told (shut m books) l = l ≡ told
+
+or-none : {X : Type 0} (o : Option X) → option_or o None ≡ o
+or-none None = refl
+or-none (Some x) = refl
+
+or-or : {X : Type 0} (a b c : Option X) → option_or a (option_or b c) ≡ option_or (option_or a b) c
+or-or None b c = refl
+or-or (Some x) b c = refl
+
+pub same-reply : {o o' : Opened} → OpenedReply o ≡ OpenedReply o' → o ≡ o'
+same-reply e = cc
+
+module _ (h : Rulebook) (most : ℕ) where
+  owes-at : (told : Option Contents) {r r₀ : Reply} {b b₀ : Moment} → Leads r r₀ b b₀ → Owes told b₀.phase b₀.owed → Owes told b.phase b.owed
+  owes-at told e o = subst (λ (n : Moment). Owes told n.phase n.owed) (sym e.leads) o
+
+  owes-left : (told : Option Contents) (c w : Answer) (x : Instruction) (v v' : View) (l : Option Contents) → LeftBy c w x v v' → OwesBy told v.mode l → OwesBy told v'.mode l
+  owes-left told (Err f) w x v v' l e o = subst (λ (z : View). OwesBy told z.mode l) (sym e) o
+  owes-left told (Ok u) (Ok w) x v v' l a o = subst (λ z. OwesBy told z l) (sym a.mode) tt
+  owes-left told (Ok u) (Err f) x v v' l a o = subst (λ z. OwesBy told z l) (sym a.mode) tt
+
+  owes-closed : (told : Option Contents) (m : Mode) (n : ℕ) (l : Option Contents) → OwesBy told m l → latest (told_by m n) l ≡ option_or (told_by m n) told
+  owes-closed told Open n l o = refl
+  owes-closed told (Down x) n l o = refl
+  owes-closed told (Refused f) n l o = o
+
+  owes-opened : (told : Option Contents) (m : Mode) (l : Option Contents) → l ≡ told → OwesBy told m (owed_after m l)
+  owes-opened told Open l o = tt
+  owes-opened told (Down x) l o = tt
+  owes-opened told (Refused f) l o = o
+
+  owes-next : (told : Option Contents) (a : Phase) (l : Option Contents) (c : Order) (r : Reply) (b : Moment) → Does h most (at a l) c r b → Owes told a l → Owes (option_or (closing_told a c) told) b.phase b.owed
+  owes-next told (running v) l (to_instruct x) r b d o = owes-at _ d.leads (owes-left told (checked h x v) (enter_answer v.medium v.count) x v d.after l d.engine.after o)
+  owes-next told (running v) l to_close r b d o = owes-at _ d (owes-closed told v.mode v.count l o)
+  owes-next told (running v) l (to_restart q remains) r b d o = owes-at _ d o
+  owes-next told (running v) l to_open r b d o = owes-at _ d o
+  owes-next told (running v) l (to_ask q) r b d o = owes-at _ d o
+  owes-next told (shut m books) l (to_instruct x) r b d o = owes-at _ d o
+  owes-next told (shut m books) l to_close r b d o = owes-at _ d o
+  owes-next told (shut m books) l (to_restart q remains) r b d o = owes-at _ d.leads o
+  owes-next told (shut m books) l to_open r b d o = owes-at _ d (owes-opened told (opened h m).mode l o)
+  owes-next told (shut m books) l (to_ask q) r b d o = owes-at _ d o
+
+  -- what is owed where a path ends
+  owes-along : {D : Type 0} {makes : D → DeviceCall → D → Type 0} {means : D → Medium} {a b : Moment} {d e : D} {cs : List Order} {rs : List Reply} (told : Option Contents) (q : Path makes means h most a d cs rs b e) → Owes told a.phase a.owed
+      → Owes (option_or (last_closing q) told) b.phase b.owed
+  unfolding last_closing
+  owes-along told (done is) o = o
+  owes-along told (onward {a = a} {m = m} {b = b} {c = c} {r = r} s q) o =
+      subst (λ u. Owes u b.phase b.owed) (or-or (last_closing q) (closing_told a.phase c) told)
+      (owes-along (option_or (closing_told a.phase c) told) q (owes-next told a.phase a.owed c r m s.does o))
+
+module _ (h : Rulebook) (most pairs : ℕ) (p : Paired pairs) (c₁ : (h.kind securities).code < 256) (c₂ : (h.kind cash).code < 256) where
+  by-leads : (t : Tally) (c : Order) {r r₀ : Reply} {b b₀ : Moment} → Leads r r₀ b b₀ → Kept h pairs (feed t c r₀) b₀ → Kept h pairs (feed t c r) b
+  by-leads t c {r} {r₀} {b} {b₀} e k = subst (λ s. Kept h pairs (feed t c s) b) (sym e.answer) (subst (λ n. Kept h pairs (feed t c r₀) n) (sym e.leads) k)
+
+  -- a call keeps the tally that it is fed to
+  kept-next : (t : Tally) (a : Phase) (l : Option Contents) (c : Order) (r : Reply) (b : Moment) → Does h most (at a l) c r b → ((x : Instruction) → c ≡ to_instruct x → Fit x) → Bounded (medium_in a) → Kept h pairs t (at a l)
+      → Kept h pairs (feed t c r) b
+  kept-next t (running v) l (to_instruct x) r b d fit bounded k = by-leads t (to_instruct x) d.leads (instructed h pairs p.few t x (fit x refl) v d.after l d.answered d.engine k)
+  kept-next t (running v) l to_close r b d fit bounded k = by-leads t to_close d (closed h pairs t v l v.mode k)
+  kept-next t (running v) l (to_restart q remains) r b d fit bounded k = by-leads t (to_restart q remains) d k
+  kept-next t (running v) l to_open r b d fit bounded k = by-leads t to_open d k
+  kept-next t (running v) l (to_ask q) r b d fit bounded k = by-leads t (to_ask q) d k
+  kept-next t (shut m books) l (to_instruct x) r b d fit bounded k = by-leads t (to_instruct x) d k
+  kept-next t (shut m books) l to_close r b d fit bounded k = by-leads t to_close d k
+  kept-next t (shut m books) l (to_restart q remains) r b d fit bounded k = by-leads t (to_restart q remains) d.leads (restarted h pairs t m d.after q most d.device k.0, k.1)
+  kept-next t (shut m books) l to_open r b d fit bounded k = by-leads t to_open d (reopened h pairs t m l p c₁ c₂ bounded k.0 k.1).kept
+  kept-next t (shut m books) l (to_ask q) r b d fit bounded k = by-leads t (to_ask q) d k
+
+  tally-none : (t : Tally) (rs : List Reply) → tally_from t [] rs ≡ t
+  unfolding tally_from
+  tally-none t rs = refl
+
+  tally-more : (t : Tally) (c : Order) (r : Reply) (cs : List Order) (rs : List Reply) → tally_from t (c ∷ cs) (r ∷ rs) ≡ tally_from (feed t c r) cs rs
+  unfolding tally_from
+  tally-more t c r cs rs = refl
+
+  -- what a moment keeps of its tally says
+  engine-by : (t : Tally) (v : View) (l : Option Contents) (m : Mode) → KeptBy h pairs t v l m → opening_answer m ≡ Ok tt → InEngine h pairs t v
+  engine-by t v l Open k e = k.1
+  engine-by t v l (Down x) k e = k.1
+  engine-by t v l (Refused f) k e = absurd cc
+
+  engine-in : (t : Tally) (b : Moment) → Kept h pairs t b → (v : View) → b.phase ≡ running v → opening_answer v.mode ≡ Ok tt → InEngine h pairs t v
+  engine-in t b k v is e = engine-by t v b.owed v.mode (subst (λ a. KeptIn h pairs t a b.owed) is k) e
+
+  stands : (t : Tally) (v : View) → InEngine h pairs t v → Stands h t.list v
+  stands t v k = record {
+    list = ap (listed v.medium) k.count ∙ listed-is h pairs k.device.journal;
+    runs = k.runs;
+    said = law-of-the-ledger h t.list v.standing k.runs;
+  }
+
+  journal-by : (t : Tally) (v : View) (l : Option Contents) (m : Mode) → KeptBy h pairs t v l m → Journal (written_by h pairs) v.medium t.list t.hand
+  journal-by t v l Open k = k.1.device.journal
+  journal-by t v l (Down x) k = k.1.device.journal
+  journal-by t v l (Refused f) k = k.0.journal
+
+  journal-in : (t : Tally) (a : Phase) (l : Option Contents) → KeptIn h pairs t a l → Journal (written_by h pairs) (medium_in a) t.list t.hand
+  journal-in t (running v) l k = journal-by t v l v.mode k
+  journal-in t (shut m books) l k = k.0.journal
+
+  -- the open that comes next
+  well : (m : Medium) (l : Option Contents) (r : Reply) → opening_answer (opened h m).mode ≡ Ok tt → r ≡ opened_reply (opened h m) l → OpenedWell r
+  well m l r e is = (record { answer = opening_answer (opened h m).mode; found = (opened h m).found; presented = slip_answer (opened h m).mode (opened h m).found (opened h m).last l }, is, e)
+
+  same-engine : {v w : View} → running v ≡ running w → v ≡ w
+  same-engine e = cc
+
+  no-misfit : {o : Opened} → OpenedReply o ≡ Misfit → ⊥
+  no-misfit e = cc
+
+  enough : (t : Tally) (a : Phase) (l : Option Contents) → Kept h pairs t (at a l) → Bounded (medium_in a) → (m : Medium) (books : Side → Holdings) → a ≡ shut m books → 1 + 2 * pairs ≤ m.left
+      → (r : Reply) (z : Moment) → Does h most (at a l) to_open r z → OpenedWell r
+  enough t (running v) l k bounded m books e low r z d = absurd cc
+  enough t (shut n others) l k bounded m books e low r z d =
+      let same : n ≡ m = ap medium_in e in
+      let o = reopened h pairs t n l p c₁ c₂ bounded k.0 k.1 in
+      well n l r (o.prompt (subst (λ (u : Medium). 1 + 2 * pairs ≤ u.left) (sym same) low)) d.answer
+
+  refused : (t : Tally) (a : Phase) (l : Option Contents) → Kept h pairs t (at a l) → Bounded (medium_in a) → (r : Reply) (z : Moment) → Does h most (at a l) to_open r z
+      → (o : Opened) (f : Fault) → r ≡ OpenedReply o → o.answer ≡ Err f → number_of f.refusal ≡ 13
+  refused t (running v) l k bounded r z d o f is e = absurd (no-misfit (sym is ∙ d.answer))
+  refused t (shut m books) l k bounded r z d o f is e =
+      let same = same-reply (sym d.answer ∙ is) in
+      (reopened h pairs t m l p c₁ c₂ bounded k.0 k.1).refused f (ap (λ (u : Opened). u.answer) same ∙ e)
+
+  verdict : (t : Tally) (told : Option Contents) (a : Phase) (l : Option Contents) → Kept h pairs t (at a l) → Owes told a l → Bounded (medium_in a) → (r : Reply) (z : Moment) → Does h most (at a l) to_open r z
+      → (o : Opened) (v : View) → r ≡ OpenedReply o → o.answer ≡ Ok tt → z.phase ≡ running v → Judged told o v
+  verdict t told (running w) l k owes bounded r z d o v is e gives = absurd (no-misfit (sym is ∙ d.answer))
+  verdict t told (shut m books) l k owes bounded r z d o v is e gives =
+      let same = same-reply (sym d.answer ∙ is) in
+      let engine : opened h m ≡ v = same-engine (sym (ap (λ (n : Moment). n.phase) d.leads) ∙ gives) in
+      let j = (reopened h pairs t m l p c₁ c₂ bounded k.0 k.1).judged (ap (λ (u : Opened). u.answer) same ∙ e) in
+      let j₁ = subst (λ (u : Opened). Judged l u (opened h m)) same j in
+      let j₂ = subst (λ u. Judged l o u) engine j₁ in
+      subst (λ u. Judged u o v) owes j₂
+
+  module _ {D : Type 0} (makes : D → DeviceCall → D → Type 0) (means : D → Medium) (bounds : (x : D) → Bounded (means x)) where
+    bounded-in : (a : Phase) (x : D) → means x ≡ medium_in a → Bounded (medium_in a)
+    bounded-in a x e = subst Bounded e (bounds x)
+
+    path-means : {a b : Moment} {d e : D} {cs : List Order} {rs : List Reply} → Path makes means h most a d cs rs b e → means e ≡ medium_in b.phase
+    path-means (done is) = is
+    path-means (onward s q) = path-means q
+
+    -- what is kept is kept along a path
+    kept-along : {a b : Moment} {d e : D} {cs : List Order} {rs : List Reply} (t : Tally) → Path makes means h most a d cs rs b e → Kept h pairs t a → Kept h pairs (tally_from t cs rs) b
+    kept-along t (done {a = a} is) k = subst (λ u. Kept h pairs u a) (sym (tally-none t [])) k
+    kept-along t (onward {a = a} {m = m} {b = b} {d = d} {c = c} {r = r} {cs = cs} {rs = rs} s q) k =
+        subst (λ u. Kept h pairs u b) (sym (tally-more t c r cs rs)) (kept-along (feed t c r) q (kept-next t a.phase a.owed c r m s.does s.fit (bounded-in a.phase d s.means-it) k))
+
+    module _ {a b : Moment} {d e : D} {cs : List Order} {rs : List Reply} (start : Kept h pairs fresh a) (none : Owes None a.phase a.owed) (q : Path makes means h most a d cs rs b e) where
+      kept : Kept h pairs (tally cs rs) b
+      kept = kept-along fresh q start
+
+      owes : Owes (last_closing q) b.phase b.owed
+      owes = subst (λ u. Owes u b.phase b.owed) (or-none (last_closing q)) (owes-along h most None q none)
+
+      bounded : Bounded (medium_in b.phase)
+      bounded = bounded-in b.phase e (path-means q)
+
+      pub law : Law h most pairs cs rs (last_closing q) b
+      law = record {
+        stands = λ v is e. stands (tally cs rs) v (engine-in (tally cs rs) b kept v is e);
+        keeps = λ v is e. (engine-in (tally cs rs) b kept v is e).device.journal;
+        prompt = λ m books is low. enough (tally cs rs) b.phase b.owed kept bounded m books is (omega (arith, p.few, low));
+        verdict = verdict (tally cs rs) (last_closing q) b.phase b.owed kept owes bounded;
+      }
+
+      pub beyond : Beyond h most pairs cs rs b
+      beyond = record {
+        prompt = enough (tally cs rs) b.phase b.owed kept bounded;
+        refused = refused (tally cs rs) b.phase b.owed kept bounded;
+        keeps = journal-in (tally cs rs) b.phase b.owed kept;
+      }
