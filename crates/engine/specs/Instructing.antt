@@ -65,7 +65,8 @@ pub record Instructed (h : Rulebook) (x : Instruction) (v v' : View) (r : Answer
   pub answer : r ≡ instruct_answer h x v
   pub after : LeftBy (checked h x v) (enter_answer v.medium v.count) x v v'
 
--- What the checks ask for: the engine is open, the rules accept the instruction, and an entry is left for it.
+-- What the checks ask for: the engine is open, the rules accept the instruction, and an entry is
+-- left for it.
 pub record Passes (h : Rulebook) (x : Instruction) (v : View) : Type 0 where
   pub mode : v.mode ≡ Open
   pub accepted : answer h v.standing x ≡ Ok tt
@@ -78,13 +79,14 @@ pub record IsFaultOf (x : Instruction) (b k : Option ℕ) (f : Fault) : Type 0 w
   pub trade : f.trade ≡ cond (nat_le 3 x.kind && nat_le x.kind 7) (Some x.trade) None
   pub rule : f.rule ≡ None
 
--- the block of the write that found no call left, by the calls left for an entry: that of its record, of its mark, or none
--- where it was a sync
+-- the block of the write that found no call left, by the calls left for an entry: that of its
+-- record, of its mark, or none where it was a sync
 abbrev pub cut_at : ℕ → ℕ → Option ℕ
 cut_at k left = cond (left == 0) (Some (record_at k)) (cond (left == 2) (Some (mark_at k)) None)
 
--- The answer is 13 exactly where the checks pass and fewer than 4 calls are left. That instruction is then in hand, and the
--- engine is down. Such a fault names the entry and the block; one of the checks names neither.
+-- The answer is 13 exactly where the checks pass and fewer than 4 calls are left. That instruction is
+-- then in hand, and the engine is down. Such a fault names the entry, and the block of a write; one of
+-- the checks names neither.
 pub record CutShort (h : Rulebook) (x : Instruction) (v v' : View) (r : Answer) : Type 0 where
   pub only : fault_number r ≡ 13 → Passes h x v × (v.medium.left < 4)
   pub always : Passes h x v → v.medium.left < 4 → fault_number r ≡ 13

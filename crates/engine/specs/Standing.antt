@@ -21,9 +21,9 @@ use Rattle.engine.specs.Lasting.{entry_in, listed}
 abbrev pub GoodMark : Medium → ℕ → Type 0
 GoodMark m k = m.holds (mark_at k) ≡ Some (mark_bytes k)
 
--- On the device m stand the header of a journal for these books, with blocks for its pairs, and n entries: good marks, each
--- with its record, and the list that those records say, which the rules accept one instruction after another, and which leads
--- to s.
+-- On the device m stand the header of a journal for these books, with blocks for its pairs, and n
+-- entries: good marks, each with its record, and the list that those records say. The rules accept it
+-- one instruction after another, and it leads to s.
 pub record StandsOn (h : Rulebook) (m : Medium) (pairs n : ℕ) (s : Standing) : Type 0 where
   pub head : m.holds 0 ≡ Some (header_bytes (header_for h pairs))
   pub some : 0 < pairs
@@ -33,14 +33,15 @@ pub record StandsOn (h : Rulebook) (m : Medium) (pairs n : ℕ) (s : Standing) :
   pub records : (k : ℕ) → k < n → m.holds (record_at k) ≡ Some (record_bytes k (entry_in m k))
   pub list : Runs h (listed m n) s
 
--- What an engine whose opening was answered 0 found: the entries up to the first mark that is not good, or to the last pair.
+-- What an engine whose opening was answered 0 found: the entries up to the first mark that is not
+-- good, or to the last pair.
 pub record FoundOn (h : Rulebook) (m : Medium) (v : View) : Type 0 where
   pub entries : StandsOn h m v.pairs v.found v.standing
   pub stop : v.found < v.pairs → GoodMark m v.found → ⊥
   pub last : v.last ≡ last_of (listed m v.found)
   pub count : v.count ≡ v.found
 
--- a fault with the number n, which names the block b and the entry k, if any, and no trade and no rule
+-- a fault with the number n that names the block b and the entry k, if any, no trade and no rule
 pub record IsFault (n : ℕ) (b k : Option ℕ) (f : Fault) : Type 0 where
   pub number : number_of f.refusal ≡ n
   pub block : f.block ≡ b
@@ -53,7 +54,8 @@ pub data HeaderRefused (h : Rulebook) (m : Medium) (f : Fault) : Type 0 where
   -- the device has no block
   no-block : m.size ≡ 0 → IsFault 11 (Some 0) None f → HeaderRefused h m f
   no-header-call : 0 < m.size → m.left ≡ 0 → IsFault 13 (Some 0) None f → HeaderRefused h m f
-  unreadable-header : 0 < m.size → 0 < m.left → m.holds 0 ≡ None → IsFault 14 (Some 0) None f → HeaderRefused h m f
+  unreadable-header : 0 < m.size → 0 < m.left → m.holds 0 ≡ None
+      → IsFault 14 (Some 0) None f → HeaderRefused h m f
   -- block 0 is no header that a journal can have
   no-header : 0 < m.left → (bs : List ℕ) → m.holds 0 ≡ Some bs
       → ((head : Header) → Proper head → header_bytes head ≢ bs)
@@ -63,11 +65,13 @@ pub data HeaderRefused (h : Rulebook) (m : Medium) (f : Fault) : Type 0 where
       → (head.register ≡ (h.kind securities).code → head.cash ≡ (h.kind cash).code → ⊥)
       → IsFault 44 None None f → HeaderRefused h m f
   -- it is one of more pairs than the device has blocks for
-  too-few-blocks : 0 < m.left → (head : Header) → Proper head → m.holds 0 ≡ Some (header_bytes head)
+  too-few-blocks : 0 < m.left → (head : Header) → Proper head
+      → m.holds 0 ≡ Some (header_bytes head)
       → head.register ≡ (h.kind securities).code → head.cash ≡ (h.kind cash).code
       → m.size < 1 + 2 * head.pairs → IsFault 45 None None f → HeaderRefused h m f
 
--- The fault of entry k, whose instruction x the rules refuse with r. It names the trade where the kind is 3 to 7.
+-- The fault of entry k, whose instruction x the rules refuse with r. It names the trade where the
+-- kind is 3 to 7.
 pub record IsRuleFault (k : ℕ) (x : Instruction) (r : Refusal) (f : Fault) : Type 0 where
   pub number : number_of f.refusal ≡ 47
   pub block : f.block ≡ None
@@ -75,11 +79,12 @@ pub record IsRuleFault (k : ℕ) (x : Instruction) (r : Refusal) (f : Fault) : T
   pub trade : f.trade ≡ cond (nat_le 3 x.kind && nat_le x.kind 7) (Some x.trade) None
   pub rule : f.rule ≡ Some r
 
--- Why entry k is refused with the fault f, where the entries before it lead to s. One call read the header, and two each of
--- the entries before it.
+-- Why entry k is refused with the fault f, where the entries before it lead to s. One call read the
+-- header, and two each of the entries before it.
 pub data EntryRefused (h : Rulebook) (m : Medium) (k : ℕ) (s : Standing) (f : Fault) : Type 0 where
   -- no call is left for the mark,
-  no-mark-call : m.left ≡ 1 + 2 * k → IsFault 13 (Some (mark_at k)) (Some k) f → EntryRefused h m k s f
+  no-mark-call : m.left ≡ 1 + 2 * k
+      → IsFault 13 (Some (mark_at k)) (Some k) f → EntryRefused h m k s f
   -- or for the record after a good mark
   no-record-call : GoodMark m k → m.left ≡ 2 + 2 * k
       → IsFault 13 (Some (record_at k)) (Some k) f → EntryRefused h m k s f
@@ -94,7 +99,7 @@ pub data EntryRefused (h : Rulebook) (m : Medium) (k : ℕ) (s : Standing) (f : 
       → m.holds (record_at k) ≡ Some (record_bytes k x)
       → (r : Refusal) → answer h s x ≡ Err r → IsRuleFault k x r f → EntryRefused h m k s f
 
--- An opening refused with the fault f at an entry: those before it stand, and it is the one that refuses.
+-- An opening refused with the fault f at an entry: those before it stand, and it is refused.
 pub record ListRefused (h : Rulebook) (m : Medium) (f : Fault) : Type 0 where
   pub pairs : ℕ
   pub entry : ℕ

@@ -39,11 +39,13 @@ turn_reads (Ok None) k = block_read (mark_at k) ∷ []
 turn_reads (Ok (Some x)) k = block_read (mark_at k) ∷ block_read (record_at k) ∷ []
 turn_reads (Err f) k = block_read (mark_at k) ∷ block_read (record_at k) ∷ []
 
--- of a list that ended well: its entries, and the mark that is not good, unless there is no further pair
+-- of a list that ended well: its entries, and the mark that is not good where there is another pair
 abbrev pub list_reads : ℕ → ℕ → List DeviceCall
-list_reads found pairs = entry_reads found ++ cond (nat_lt found pairs) (block_read (mark_at found) ∷ []) []
+list_reads found pairs =
+    entry_reads found ++ cond (nat_lt found pairs) (block_read (mark_at found) ∷ []) []
 
--- of one that was refused: the entries up to the one that the fault names, or none where the header was refused
+-- of one that was refused: the entries up to the one that the fault names; none where it names none,
+-- since then the header was refused
 abbrev pub refused_reads : Option ℕ → List DeviceCall
 refused_reads None = []
 refused_reads (Some k) = entry_reads (k + 1)
@@ -59,6 +61,8 @@ opened_reads Open v = list_reads v.found v.pairs
 opened_reads (Down x) v = []
 opened_reads (Refused f) v = refused_reads f.entry
 
--- Those of an opening: the header's, then mark and record of each entry, up to the first that finds no call left.
+-- Those of an opening: the header's, then mark and record of each entry, up to the first that finds
+-- no call left.
 abbrev pub opening_calls : Rulebook → Medium → List DeviceCall
-opening_calls h m = let v = opened h m in take (m.left + 1) (block_read 0 ∷ opened_reads v.mode v)
+opening_calls h m =
+    let v = opened h m in take (m.left + 1) (block_read 0 ∷ opened_reads v.mode v)

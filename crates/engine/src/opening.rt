@@ -136,7 +136,8 @@ impl<D: Device, R: Book, C: Book> Engine<D, R, C> {
             Opens (rulebook R.fixed C.fixed) (D.medium device) v v.mode }
         ensures prompt { Prompt (rulebook R.fixed C.fixed) (D.medium device) (view D.medium result).mode }
         ensures kept { SameBlocks (D.medium device) (D.medium result.device) }
-        ensures trace { Traced D.makes (opening_calls (rulebook R.fixed C.fixed) (D.medium device)) device result.device }
+        ensures trace { let h = rulebook R.fixed C.fixed in
+            Traced D.makes (opening_calls h (D.medium device)) device result.device }
     {
         let register_kind = register.kind();
         let cash_kind = cash.kind();

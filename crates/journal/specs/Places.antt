@@ -1,4 +1,5 @@
--- Where each number stands in a journal's blocks, and each block on its device. All is counted out here, by no word of the layout.
+-- Where each number stands in a journal's blocks, and each block on its device, counted out by no word
+-- of the layout.
 use Rattle.std.specs.Prelude.{◌≡◌, ℕ, ◌+◌, ◌*◌, ◌^◌, ◌<◌, ◌≤◌, List, length, Some, ◌≢◌, slice_index_or}
 use Rattle.device.specs.declared.TheConstants.{BLOCK}
 use Rattle.device.specs.Medium.{Medium}
@@ -11,7 +12,8 @@ byte bs i = slice_index_or bs i 0
 
 -- the number in the four bytes from place i on, the lowest first
 abbrev pub four : List ℕ → ℕ → ℕ
-four bs i = byte bs i + 2 ^ 8 * byte bs (i + 1) + 2 ^ 16 * byte bs (i + 2) + 2 ^ 24 * byte bs (i + 3)
+four bs i =
+    byte bs i + 2 ^ 8 * byte bs (i + 1) + 2 ^ 16 * byte bs (i + 2) + 2 ^ 24 * byte bs (i + 3)
 
 -- zeros from place n on
 abbrev pub ZeroFrom : ℕ → List ℕ → Type 0
@@ -41,15 +43,17 @@ pub record MarkPlaces (k : ℕ) (bs : List ℕ) : Type 0 where
   pub complement : four bs 4 + k + 1 ≡ 2 ^ 32
   pub rest : ZeroFrom 8 bs
 
--- A format: the header in block 0, zeros in the even blocks after it, one for each pair, and all others as they were.
+-- A format: the header in block 0, zeros in the even blocks after it, one for each pair, and all
+-- others as they were.
 pub record FormatPlaces (register cash pairs : ℕ) (m m' : Medium) : Type 0 where
   pub head : (bs : List ℕ) × (m'.holds 0 ≡ Some bs) × HeaderPlaces register cash pairs bs
-  pub even : (j : ℕ) → 0 < j → j ≤ pairs → (bs : List ℕ) × (m'.holds (2 * j) ≡ Some bs) × (length bs ≡ BLOCK) × ZeroFrom 0 bs
+  pub even : (j : ℕ) → 0 < j → j ≤ pairs
+      → (bs : List ℕ) × (m'.holds (2 * j) ≡ Some bs) × (length bs ≡ BLOCK) × ZeroFrom 0 bs
   pub odd : (j : ℕ) → m'.holds (2 * j + 1) ≡ m.holds (2 * j + 1)
   pub beyond : (b : ℕ) → 2 * pairs < b → m'.holds b ≡ m.holds b
 
--- An entry k that is written: its record in the odd block 2k + 1, its mark in the even one after that, and all others as
--- they were.
+-- An entry k that is written: its record in the odd block 2k + 1, its mark in the even one after that,
+-- and all others as they were.
 pub record EntryPlaces (k : ℕ) (x : Instruction) (m m' : Medium) : Type 0 where
   pub entry : (bs : List ℕ) × (m'.holds (2 * k + 1) ≡ Some bs) × RecordPlaces k x bs
   pub mark : (bs : List ℕ) × (m'.holds (2 * k + 2) ≡ Some bs) × MarkPlaces k bs
