@@ -2,7 +2,7 @@
 use Rattle.std.proofs.Common.{◌≡◌, ℕ, ◌+◌, ◌<◌, ◌≤◌, Bool, true, false, cond, ◌||◌, eqb, ltb, leb, List, [], ◌∷◌, Ok, Err, Result, refl, sym, ap, ◌∙◌, arith}
 use Rattle.std.proofs.lemmas.Bool.{leb-false, ltb-false, eqb-false, lt-leb, le-ltb, ne_eqb, or_parts}
 use Rattle.answers.specs.declared.Refusal.{Refusal}
-use Rattle.answers.specs.declared.Refusal.TheVariants.{NoAccount, NoItem, NoQuantity, OverBlocked}
+use Rattle.answers.specs.declared.Refusal.TheVariants.{NoAccount, NoItem, NoQuantity}
 use Rattle.book.specs.Holdings.{Holdings, BookKind, total, limit, Deed, keep, crediting, blocking, releasing, moving, apply}
 use Rattle.book.specs.Rulings.{Check, ◌refuses◌, first, checks, ruling, on_ok, outcome, asked, covering}
 use Rattle.book.proofs.Asked.{asked-within}
