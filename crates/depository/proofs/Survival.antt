@@ -32,8 +32,8 @@ use Rattle.depository.specs.Handling.{medium_in}
 use Rattle.depository.specs.Calling.{Leads, Does, slip_answer, owed_after, opened_reply}
 use Rattle.depository.specs.Tally.{Tally, feed, fresh, tally, tally_from}
 use Rattle.depository.specs.Paths.{Path, done, onward, closing_told, last_closing}
-use Rattle.depository.specs.Law.{Stands, Judged, OpenedWell, Law, Beyond}
-use Rattle.depository.proofs.Kept.{Paired, InEngine, KeptBy, KeptIn, Kept}
+use Rattle.depository.specs.Law.{Stands, Judged, TellsTally, OpenedWell, Law, Beyond}
+use Rattle.depository.proofs.Kept.{Matches, Paired, InEngine, KeptBy, KeptIn, Kept}
 use Rattle.depository.proofs.Instructed.{instructed}
 use Rattle.depository.proofs.Reopened.{closed, restarted, reopened}
 
@@ -150,6 +150,28 @@ module _ (h : Rulebook) (most pairs : ℕ) (p : Paired pairs) (c₁ : (h.kind se
   journal-in t (running v) l k = journal-by t v l v.mode k
   journal-in t (shut m books) l k = k.0.journal
 
+  -- what is in hand
+  idle-by : (t : Tally) (v : View) (l : Option Contents) (m : Mode) → KeptBy h pairs t v l m → m ≡ Open → t.hand ≡ None
+  idle-by t v l Open k e = k.0
+  idle-by t v l (Down x) k e = absurd cc
+  idle-by t v l (Refused f) k e = absurd cc
+
+  hand-by : (t : Tally) (v : View) (l : Option Contents) (m : Mode) → KeptBy h pairs t v l m → (x : Instruction) → m ≡ Down x → t.hand ≡ Some x
+  hand-by t v l Open k x e = absurd cc
+  hand-by t v l (Down y) k x e = let same : y ≡ x = cc in k.0 ∙ ap (λ (z : Instruction). Some z) same
+  hand-by t v l (Refused f) k x e = absurd cc
+
+  tells : (t : Tally) (l : Option Contents) → Matches l t → TellsTally l t
+  tells t None k = record { none = λ e. k; some = λ c e. absurd cc }
+  tells t (Some d) k = record {
+    none = λ e. absurd cc;
+    some = λ c e. let same : d ≡ c = cc in (sym (ap (λ (z : Contents). z.entries) same) ∙ k.0, sym (ap (λ (z : Contents). z.hand) same) ∙ k.1);
+  }
+
+  slip-in : (t : Tally) (told : Option Contents) (a : Phase) (l : Option Contents) → KeptIn h pairs t a l → Owes told a l → (m : Medium) (books : Side → Holdings) → a ≡ shut m books → TellsTally told t
+  slip-in t told (running v) l k o m books e = absurd cc
+  slip-in t told (shut n others) l k o m books e = subst (λ u. TellsTally u t) o (tells t l k.1)
+
   -- the open that comes next
   well : (m : Medium) (l : Option Contents) (r : Reply) → opening_answer (opened h m).mode ≡ Ok tt → r ≡ opened_reply (opened h m) l → OpenedWell r
   well m l r e is = (record { answer = opening_answer (opened h m).mode; found = (opened h m).found; presented = slip_answer (opened h m).mode (opened h m).found (opened h m).last l }, is, e)
@@ -214,6 +236,9 @@ module _ (h : Rulebook) (most pairs : ℕ) (p : Paired pairs) (c₁ : (h.kind se
       law = record {
         stands = λ v is e. stands (tally cs rs) v (engine-in (tally cs rs) b kept v is e);
         keeps = λ v is e. (engine-in (tally cs rs) b kept v is e).device.journal;
+        idle = λ v is. idle-by (tally cs rs) v b.owed v.mode (subst (λ a. KeptIn h pairs (tally cs rs) a b.owed) is kept);
+        hand = λ v is. hand-by (tally cs rs) v b.owed v.mode (subst (λ a. KeptIn h pairs (tally cs rs) a b.owed) is kept);
+        slip = slip-in (tally cs rs) (last_closing q) b.phase b.owed kept owes;
         prompt = λ m books is low. enough (tally cs rs) b.phase b.owed kept bounded m books is (omega (arith, p.few, low));
         verdict = verdict (tally cs rs) (last_closing q) b.phase b.owed kept owes bounded;
       }

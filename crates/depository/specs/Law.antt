@@ -1,6 +1,6 @@
 -- The law of survival: what stands of a depository, and what its next open is answered, wherever
 -- calls have led it from a format on.
-use Rattle.std.specs.Prelude.{◌≡◌, ℕ, ◌+◌, ◌*◌, ◌≤◌, true, false, ◌⊎◌, List, Some, None, Ok, Err, Option, Result}
+use Rattle.std.specs.Prelude.{◌≡◌, ℕ, ◌+◌, ◌*◌, ◌≤◌, true, false, ◌⊎◌, List, length, Some, None, Ok, Err, Option, Result}
 use Rattle.answers.specs.declared.Refusal.{Refusal}
 use Rattle.answers.specs.declared.Fault.{Fault}
 use Rattle.answers.specs.Numbers.{number_of}
@@ -16,6 +16,7 @@ use Rattle.device.specs.Traces.{DeviceCall, Traced}
 use Rattle.journal.specs.Blocks.{header_bytes}
 use Rattle.journal.specs.Journal.{Journal}
 use Rattle.journal.specs.Format.{no_room, format_answer, Formatted, format_calls}
+use Rattle.engine.specs.declared.engine.Mode.TheVariants.{Open, Down}
 use Rattle.engine.specs.declared.slip.Contents.{Contents}
 use Rattle.engine.specs.declared.slip.Verdict.{Verdict}
 use Rattle.engine.specs.Slips.{Judges, presented_number}
@@ -32,26 +33,25 @@ use Rattle.depository.specs.declared.stop.Stop.TheVariants.{Refused, NoMemory}
 use Rattle.depository.specs.Moments.{running, shut, Moment, at}
 use Rattle.depository.specs.Calling.{Does}
 use Rattle.depository.specs.Handling.{medium_in}
-use Rattle.depository.specs.Tally.{tally}
+use Rattle.depository.specs.Tally.{Tally, tally}
 use Rattle.depository.specs.Paths.{Path, last_closing}
 
 -- calls that are enough to open any device
 abbrev pub enough_to_open : ℕ
 enough_to_open = 65535
 
--- An engine has this list: it is what the records of its entries say, and the rules accept it, one
--- instruction after another, and lead by it to the books and the trades. Each trade's state and
--- terms are those that the list says. For each account and item, free and blocked together are its
--- credits and what it received, less what it gave; and what is blocked is what its open trades
--- hold.
+-- xs is the engine's standing list: the instructions that its records say. The rules accept them in
+-- order, and carrying them out gives the engine's books and trades. Each trade's state and terms are
+-- those that the list says. For each account and item, free and blocked together are its credits and
+-- what it received, less what it gave; and what is blocked is what its open trades hold.
 pub record Stands (h : Rulebook) (xs : List Instruction) (v : View) : Type 0 where
   -- no record here is one that says nothing: the rules would not accept what is listed for it
   pub list : listed v.medium v.count ≡ xs
   pub runs : Runs h xs v.standing
   pub said : SaidBy xs v.standing
 
--- What an open answered o, which gave the engine v, says of the last closing before it that was not
--- unknown. That closing told this, if there was one.
+-- What the answer o of an open, and the engine v that it gave, say of the last closing before it whose
+-- slip is known. `told` is what that slip tells, or None where there was no such closing.
 pub record Judged (told : Option Contents) (o : Opened) (v : View) : Type 0 where
   pub none : told ≡ None → o.presented ≡ None
   -- its slip is judged by the count of the entries found and the last of them
@@ -60,14 +60,20 @@ pub record Judged (told : Option Contents) (o : Opened) (v : View) : Type 0 wher
   pub upheld : (p : Result Verdict Refusal) → o.presented ≡ Some p
       → (presented_number p ≡ 0) ⊎ (presented_number p ≡ 1)
 
+-- What the last closing told, if its slip is known, is the tally: how many instructions it lists, and
+-- what is in hand. Where there was none, nothing is in hand.
+pub record TellsTally (told : Option Contents) (t : Tally) : Type 0 where
+  pub none : told ≡ None → t.hand ≡ None
+  pub some : (c : Contents) → told ≡ Some c → (c.entries ≡ length t.list) × (c.hand ≡ t.hand)
+
 -- an open was answered 0
 abbrev pub OpenedWell : Reply → Type 0
 OpenedWell r = (o : Opened) × (r ≡ OpenedReply o) × (o.answer ≡ Ok tt)
 
 module _ (h : Rulebook) (most pairs : ℕ) where
-  -- The law, where the calls cs, answered rs, have led from a format to the moment b, and the last
-  -- closing among them that was not unknown told this. It is said by the tally of just these calls
-  -- and answers.
+  -- The law at the moment b, to which the calls cs, answered rs, have led from a format. `told` is
+  -- what the last of the known slips among them tells: in the law itself it is read off the run, by
+  -- `last_closing`. All is said by the tally of just these calls and answers.
   pub record Law (cs : List Order) (rs : List Reply) (told : Option Contents) (b : Moment)
       : Type 0 where
     -- on every engine that is open or down the tally stands, and the device keeps it
@@ -75,6 +81,13 @@ module _ (h : Rulebook) (most pairs : ℕ) where
         → Stands h (tally cs rs).list v
     pub keeps : (v : View) → b.phase ≡ running v → opening_answer v.mode ≡ Ok tt
         → Journal (written_by h pairs) v.medium (tally cs rs).list (tally cs rs).hand
+    -- nothing is in hand on an engine that is open, and on one that is down what was cut short
+    pub idle : (v : View) → b.phase ≡ running v → v.mode ≡ Open → (tally cs rs).hand ≡ None
+    pub hand : (v : View) → b.phase ≡ running v
+        → (x : Instruction) → v.mode ≡ Down x → (tally cs rs).hand ≡ Some x
+    -- while it is shut, the last known slip tells the tally
+    pub slip : (m : Medium) (books : Side → Holdings) → b.phase ≡ shut m books
+        → TellsTally told (tally cs rs)
     -- an open that comes next, of a device with calls enough, is answered 0
     pub prompt : (m : Medium) (books : Side → Holdings) → b.phase ≡ shut m books
         → enough_to_open ≤ m.left
@@ -84,7 +97,7 @@ module _ (h : Rulebook) (most pairs : ℕ) where
         → (o : Opened) (v : View) → r ≡ OpenedReply o → o.answer ≡ Ok tt → z.phase ≡ running v
         → Judged told o v
 
-  -- What holds there beyond the promise.
+  -- More that holds at the same moment, and is not promised.
   pub record Beyond (cs : List Order) (rs : List Reply) (b : Moment) : Type 0 where
     -- the calls that reading a journal of so many pairs takes at most are enough
     pub prompt : (m : Medium) (books : Side → Holdings) → b.phase ≡ shut m books
@@ -123,13 +136,12 @@ module _ {D : Type 0} (makes : D → DeviceCall → D → Type 0) (means : D →
     pub record Survives (cs : List Order) (rs : List Reply) (b : Moment) (e : D) : Type 0 where
       -- what was done
       pub run : Run cs rs b e
-      -- and what holds of every run of such a depository, whatever the calls and the answers
-      pub law : (cs : List Order) (rs : List Reply) (b : Moment) (e : D) (run : Run cs rs b e)
-          → Law h most pairs cs rs (last_closing run.path) b
-      pub beyond : (cs : List Order) (rs : List Reply) (b : Moment) (e : D)
-          → Run cs rs b e → Beyond h most pairs cs rs b
-      -- what a list of instructions says of a trade's state and terms is what its last instruction
-      -- and its last Enter say
+      -- and what holds of every run of such a depository, whatever its calls and their answers
+      pub law : (cs' : List Order) (rs' : List Reply) (b' : Moment) (e' : D)
+          (other : Run cs' rs' b' e') → Law h most pairs cs' rs' (last_closing other.path) b'
+      pub beyond : (cs' : List Order) (rs' : List Reply) (b' : Moment) (e' : D)
+          → Run cs' rs' b' e' → Beyond h most pairs cs' rs' b'
+      -- every list has one last instruction of a trade, and one last Enter, or none
       pub words : LastWords
 
   -- No calls were given, and the depository is as it was made: the format was refused; or there was
