@@ -29,7 +29,8 @@ pub extern "C" fn bindings_run(
     calls: &[Call],
     answers: &mut [Answer],
 ) -> u8
-    // 0 where the work was done, or 1 to 3
+    // 0 where the calls were given, 1 where memory was wanting, 2 where a kind is not listed, 3 where
+    // the device's image has another length in the end
     ensures status { result ≤ 3 }
 
     // 2 exactly where there is no such kind of device or of book
@@ -59,7 +60,7 @@ pub extern "C" fn bindings_time(
     trial: &Trial,
     told: &mut u64,
 ) -> u8
-    // the same statuses
+    // the same statuses, 0 where it was done
     ensures status { result ≤ 3 }
     ensures unlisted { (result ≡ 2) ↔ (is_listed setup.now ≡ false) }
     ensures memory { result ≡ 1 → 0 < length image.old }

@@ -37,8 +37,8 @@ armed_calls m kept loose bytes rest =
     (writing loose bytes ∷ if_ok (loose_answer m loose (length bytes)) rest []) [])
     []
 
--- The first write was refused with the fault e: nothing changed, but that for want of calls its own
--- block may.
+-- The first write was refused with the fault e: nothing changed, except that a 13 may have changed its
+-- own block.
 pub record FirstRefused (m m' : Medium) (kept : ℕ) (e : Fault) : Type 0 where
   pub others : Elsewhere m m' kept
   pub same : (number_of e.refusal ≢ 13) → SameBlocks m m'
@@ -50,8 +50,8 @@ pub record SyncRefused (m m' : Medium) (kept : ℕ) (bytes : List ℕ) : Type 0 
   pub others : (k : ℕ) → (k ≢ kept) → m'.holds k ≡ m.holds k
   pub loose : (k : ℕ) → (k ≢ kept) → m'.loose k ≡ true → m.loose k ≡ true
 
--- The second write was refused with the fault e: the first block holds the bytes and none is loose, but
--- that for want of calls the second write's block may be, and may hold anything.
+-- The second write was refused with the fault e: the first block holds the bytes and none is loose,
+-- except that a 13 may have left the second write's block loose, and holding anything.
 pub record SecondRefused (m m' : Medium) (kept loose : ℕ) (bytes : List ℕ) (e : Fault)
     : Type 0 where
   pub first : (kept ≢ loose) → m'.holds kept ≡ Some bytes

@@ -1,5 +1,6 @@
 // What any powered device must stand, shown from the interface alone.
 ghost use Rattle.std.specs.Prelude.{◌≡◌, ◌-◌, min, [], ◌∷◌, length};
+ghost use Rattle.device.specs.declared.TheConstants.{BLOCK};
 ghost use Rattle.device.specs.Calls.{SameBlocks, if_ok, write_answer};
 ghost use Rattle.device.specs.Traces.{Traced, reading, restarting};
 ghost use Rattle.drill.specs.Drills.{Armed, Drilled, ReadBack, armed_calls, looked};
@@ -94,6 +95,7 @@ pub fn look<D: Device>(device: &mut D, block: u32) -> Result<Ends, Fault>
         ((D.Device.medium device.old).left - 1)
         (D.Device.medium device.old).left }
     ensures same { SameBlocks (D.Device.medium device.old) (D.Device.medium device.new) }
+    ensures call { D.Device.makes device.old (reading block BLOCK) device.new }
 {
     let mut buffer = [0u8; 256];
     device.read(block, &mut buffer)?;
