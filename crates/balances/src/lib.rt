@@ -11,8 +11,8 @@ ghost use Rattle.balances.specs.Rows.{balances_kind, at};
 ghost use Rattle.balances.specs.Meaning.{meaning};
 ghost use Rattle.balances.specs.Outside.{at-outside};
 
-use answers::Refusal;
 use book::{ACCOUNTS, Book, Holding, covers};
+use refusals::Refusal;
 pub use table::Balances;
 
 const ITEMS: u16 = 16;

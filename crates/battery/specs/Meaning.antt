@@ -1,7 +1,8 @@
 -- What a battery-backed device means. Assumes nothing.
 use Rattle.std.specs.Prelude.{◌≡◌, ℕ, List, length, vec_items}
 use Rattle.device.specs.Medium.{Medium}
-use Rattle.device.specs.Calls.{admitted, if_ok}
+use Rattle.refusals.specs.Answers.{if_ok}
+use Rattle.device.specs.Calls.{admitted}
 use Rattle.device.specs.Images.{blocks, held, put, row, imaged}
 use Rattle.device.specs.Traces.{DeviceCall, reading, writing, syncing, restarting, ImageMade}
 use Rattle.battery.specs.Rows.{never_loose, written}

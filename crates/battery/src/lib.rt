@@ -11,8 +11,8 @@ ghost use Rattle.std.proofs.Common.{rules};
 mod row;
 mod state;
 
-use answers::Fault;
 use device::{Device, PoweredDevice};
+use refusals::Fault;
 use row::Kept;
 pub use state::Battery;
 

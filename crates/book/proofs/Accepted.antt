@@ -1,10 +1,11 @@
 -- What an accepted deed tells of its book, and what it leaves. Assumes nothing.
 use Rattle.std.proofs.Common.{◌≡◌, ℕ, ◌+◌, ◌<◌, ◌≤◌, Bool, true, false, cond, ◌||◌, eqb, ltb, leb, List, [], ◌∷◌, Ok, Err, Result, refl, sym, ap, ◌∙◌, arith}
 use Rattle.std.proofs.lemmas.Bool.{leb-false, ltb-false, eqb-false, lt-leb, le-ltb, ne_eqb, or_parts}
-use Rattle.answers.specs.declared.Refusal.{Refusal}
-use Rattle.answers.specs.declared.Refusal.TheVariants.{NoAccount, NoItem, NoQuantity}
+use Rattle.refusals.specs.declared.Refusal.{Refusal}
+use Rattle.refusals.specs.declared.Refusal.TheVariants.{NoAccount, NoItem, NoQuantity}
 use Rattle.book.specs.Holdings.{Holdings, BookKind, total, limit, Deed, keep, crediting, blocking, releasing, moving, apply}
-use Rattle.book.specs.Rulings.{Check, ◌refuses◌, first, checks, ruling, on_ok, outcome, asked, covering}
+use Rattle.refusals.specs.Answers.{if_ok}
+use Rattle.book.specs.Rulings.{Check, ◌refuses◌, first, checks, ruling, outcome, asked, covering}
 use Rattle.book.proofs.Asked.{asked-within}
 use Rattle.book.proofs.Totals.{credit-below, total-block, total-release, total-move}
 
@@ -18,7 +19,7 @@ given false true x y e = absurd cc
 given false false x y e = (refl, refl, cc)
 
 pub outcome-ok : (k : BookKind) (b : Holdings) (w : Deed) → Ok tt ≡ ruling k b w → apply b w ≡ outcome k b w
-outcome-ok k b w e = ap (λ r. on_ok r (apply b w) b) e
+outcome-ok k b w e = ap (λ r. if_ok r (apply b w) b) e
 
 -- a question that is answered lies within the book
 pub asked-ok : {X : Type 0} (k : BookKind) (f : ℕ → ℕ → X) (a i : ℕ) (x : X) → Ok x ≡ asked k f a i → (a < 64) × (i < k.items) × (x ≡ f a i)
@@ -95,4 +96,4 @@ module _ (k : BookKind) (b : Holdings) where
   ruling-self A I q = ap (λ t. first (t refuses 21 ∷ leb k.items I refuses 22 ∷ eqb q 0 refuses 23 ∷ ltb (b.blocked A I) q refuses 26 ∷ [])) (twice (leb 64 A))
 
   pub outcome-self : (A I q : ℕ) → outcome k b (moving A A I q) ≡ outcome k b (releasing A I q)
-  outcome-self A I q = ap (λ r. on_ok r (apply b (releasing A I q)) b) (ruling-self A I q)
+  outcome-self A I q = ap (λ r. if_ok r (apply b (releasing A I q)) b) (ruling-self A I q)

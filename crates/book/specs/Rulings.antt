@@ -1,7 +1,8 @@
 -- A book's checks in their order, and what each call answers and leaves. Assumes nothing.
+use Rattle.refusals.specs.Answers.{if_ok}
 use Rattle.std.specs.Prelude.{ℕ, ◌+◌, Bool, cond, ◌||◌, ltb, leb, List, [], ◌∷◌, Ok, Err, Result, ◌==◌, nat_eq, nat_le, nat_lt}
-use Rattle.answers.specs.declared.Refusal.{Refusal}
-use Rattle.answers.specs.Numbers.{numbered}
+use Rattle.refusals.specs.declared.Refusal.{Refusal}
+use Rattle.refusals.specs.Numbers.{numbered}
 use Rattle.book.specs.declared.Holding.{Holding}
 use Rattle.book.specs.Holdings.{Holdings, BookKind, limit, total, Deed, keep, crediting, blocking, releasing, moving, apply}
 
@@ -39,14 +40,9 @@ module _ (k : BookKind) (b : Holdings) where
   abbrev pub ruling : Deed → Result (Unit {0}) Refusal
   ruling w = first (checks w)
 
--- the new value where the answer is yes, else the old one
-abbrev pub on_ok : {X E Y : Type 0} → Result X E → Y → Y → Y
-on_ok (Ok u) new old = new
-on_ok (Err e) new old = old
-
 -- what a call leaves: the deed done where it is accepted, else all as it was
 abbrev pub outcome : BookKind → Holdings → Deed → Holdings
-outcome k b w = on_ok (ruling k b w) (apply b w) b
+outcome k b w = if_ok (ruling k b w) (apply b w) b
 
 -- some quantity, and no more than is there
 abbrev pub covering : ℕ → ℕ → Refusal → Result (Unit {0}) Refusal

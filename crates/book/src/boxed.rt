@@ -1,6 +1,6 @@
 // A book in a box is the book in it, and moves at the cost of a pointer.
 use crate::Book;
-use answers::Refusal;
+use refusals::Refusal;
 
 impl<B: Book> Book for Box<B> {
     ghost holdings = { λ b. B.holdings b.value };

@@ -8,7 +8,7 @@ ghost use Rattle.book.specs.Rulings.{ruling, outcome, asked, covering, holding_a
 
 mod boxed;
 
-use answers::Refusal;
+use refusals::Refusal;
 
 // How many accounts a book has, numbered from 0.
 pub const ACCOUNTS: u16 = 64;

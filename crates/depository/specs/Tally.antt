@@ -1,7 +1,7 @@
 -- The tally of a depository: a list, and what is in hand, fed nothing but calls and their answers.
 use Rattle.std.specs.Prelude.{List, [], ◌∷◌, ◌++◌, Some, None, Ok, Err, Option, Result, ◌==◌, if◌then◌else◌}
-use Rattle.answers.specs.declared.Refusal.{Refusal}
-use Rattle.answers.specs.Numbers.{number_of}
+use Rattle.refusals.specs.declared.Refusal.{Refusal}
+use Rattle.refusals.specs.Numbers.{number_of}
 use Rattle.instruction.specs.declared.Instruction.{Instruction}
 use Rattle.device.specs.Calls.{Answer}
 use Rattle.engine.specs.declared.slip.Verdict.{Verdict}

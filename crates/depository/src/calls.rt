@@ -1,8 +1,8 @@
 // What a depository is asked, and what it answers.
-use answers::{Fault, Refusal};
 use book::Holding;
 use engine::Verdict;
 use instruction::Instruction;
+use refusals::{Fault, Refusal};
 use rulebook::State;
 
 // What is asked of an engine, which alters nothing.

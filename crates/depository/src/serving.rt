@@ -11,10 +11,10 @@ ghost use Rattle.depository.specs.Law.{AfterFormat, Survives, Stopped};
 use crate::calls::{Call, Reply};
 use crate::condition::{Condition, Depository};
 use crate::stop::Stop;
-use answers::Fault;
 use book::Book;
 use device::{Device, PoweredDevice};
 use journal::format;
+use refusals::Fault;
 
 impl<D: PoweredDevice, R: Book, C: Book> Depository<D, R, C> {
     // A depository that owes no slip.

@@ -5,10 +5,10 @@ ghost use Rattle.engine.specs.Slips.{contents};
 ghost use Rattle.depository.specs.Slips.{owed_contents, latest, Known};
 ghost use Rattle.depository.specs.Calling.{slip_answer, owed_after};
 
-use answers::Refusal;
 use book::Book;
 use device::Device;
 use engine::{Engine, Slip, Verdict};
+use refusals::Refusal;
 
 // The slip that is owed, when one more is given.
 pub(crate) fn latest(before: Option<Slip>, given: Slip) -> Option<Slip>

@@ -13,11 +13,11 @@ ghost use Rattle.instruction.specs.declared.Instruction.{Instruction};
 use crate::calls::{Call, Fact, Opened, Question, Reply};
 use crate::condition::{Condition, Depository};
 use crate::slips::{latest, present};
-use answers::Refusal;
 use book::Book;
 use device::{Device, PoweredDevice};
 use engine::Engine;
 use instruction::Instruction;
+use refusals::Refusal;
 
 // What an engine tells of a question.
 fn told<D: Device, R: Book, C: Book>(

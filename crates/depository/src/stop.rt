@@ -2,7 +2,7 @@
 ghost use Rattle.std.specs.Prelude.{◌≡◌};
 ghost use Rattle.depository.specs.declared.stop.Stop.TheVariants.{NoMemory};
 
-use answers::Fault;
+use refusals::Fault;
 use std::alloc::AllocError;
 
 #[derive(Clone, Copy)]

@@ -1,9 +1,9 @@
 -- What an answer tells, and how a read's promise is made from what the block holds.
 use Rattle.std.proofs.Common.{◌≡◌, ℕ, ◌<◌, eqb, List, length, Ok, Err, sym, refl, ap, ◌∙◌, inl, inr, arith}
 use Rattle.std.proofs.lemmas.Bool.{cond-true, cond-false, lt-leb, eq-eqb, eqb-true, eqb-false, cases_Bool}
-use Rattle.answers.specs.declared.Refusal.TheVariants.{NoCalls}
-use Rattle.answers.specs.declared.Fault.{Fault}
-use Rattle.answers.specs.Faults.{plain, at_block}
+use Rattle.refusals.specs.declared.Refusal.TheVariants.{NoCalls}
+use Rattle.refusals.specs.declared.Fault.{Fault}
+use Rattle.refusals.specs.Faults.{plain, at_block}
 use Rattle.device.specs.Medium.{Medium}
 use Rattle.device.specs.Calls.{Answer, admitted, and_then, Write, Sync}
 

@@ -1,16 +1,13 @@
 -- What the calls of a device answer and change: m is the device before the call, and m' after it. Assumes nothing.
+use Rattle.refusals.specs.Answers.{if_ok}
 use Rattle.std.specs.Prelude.{◌≡◌, ℕ, ◌-◌, true, false, cond, List, length, Some, None, Ok, Err, Option, Result, ◌==◌, ◌≢◌, nat_le}
-use Rattle.answers.specs.Numbers.{number_of}
-use Rattle.answers.specs.declared.Fault.{Fault}
-use Rattle.answers.specs.Faults.{fault, fault_at}
+use Rattle.refusals.specs.Numbers.{number_of}
+use Rattle.refusals.specs.declared.Fault.{Fault}
+use Rattle.refusals.specs.Faults.{fault, fault_at}
 use Rattle.device.specs.Medium.{Medium}
 
 abbrev pub Answer : Type 0
 Answer = Result Unit Fault
-
-abbrev pub if_ok : {A : Type 0} → Answer → A → A → A
-if_ok (Ok x) a b = a
-if_ok (Err e) a b = b
 
 -- the checks that a read and a write share, in order: of size blocks and left calls, for block b and n bytes
 abbrev pub admitted : ℕ → ℕ → ℕ → ℕ → Answer

@@ -1,7 +1,8 @@
 -- What a device goes through: calls, in order, and what its kind says of each. Assumes nothing.
 use Rattle.std.specs.Prelude.{◌≡◌, ℕ, ◌-◌, min, Bool, true, false, List, length}
 use Rattle.std.specs.List.{FoldsTo, list_all}
-use Rattle.device.specs.Calls.{if_ok, admitted, spend_answer}
+use Rattle.refusals.specs.Answers.{if_ok}
+use Rattle.device.specs.Calls.{admitted, spend_answer}
 use Rattle.device.specs.Images.{blocks}
 
 -- A call, as far as the device is concerned: a read of a block into a buffer of so many bytes, a write of bytes to a block,

@@ -1,12 +1,13 @@
 // A device over an image, in rows of one width: what every such device does alike.
 ghost use Rattle.std.specs.Prelude.{◌≡◌, ℕ, ◌-◌, ◌^◌, ◌<◌, ◌≤◌, Bool, List, length, Some, None, Option, IsSome, IsNone, MatchOption, ◌↔◌};
 ghost use Rattle.device.specs.Bytes.{Bytes};
-ghost use Rattle.device.specs.Calls.{Read, Write, if_ok, spend_answer};
+ghost use Rattle.refusals.specs.Answers.{if_ok};
+ghost use Rattle.device.specs.Calls.{Read, Write, spend_answer};
 ghost use Rattle.device.specs.Images.{blocks, held, imaged, put, row};
 
 use crate::BLOCK;
 use crate::images::{admit, whole_blocks};
-use answers::{Fault, Refusal};
+use refusals::{Fault, Refusal};
 
 // What a row of some width holds, and what a write makes of it.
 pub trait Layout<const ROW: usize> {

@@ -5,7 +5,7 @@ ghost use Rattle.device.specs.Calls.{admitted};
 ghost use Rattle.device.specs.Images.{blocks};
 
 use crate::BLOCK;
-use answers::{Fault, Refusal};
+use refusals::{Fault, Refusal};
 
 // As many blocks as a device may have.
 const MOST_BLOCKS: usize = 65535;

@@ -10,9 +10,9 @@ ghost use Rattle.device.specs.Traces.{DeviceCall, reading, writing, syncing, res
 mod imaged;
 mod images;
 
-use answers::Fault;
 pub use imaged::{Imaged, Layout, held_bytes};
 pub use images::{admit, whole_blocks};
+use refusals::Fault;
 
 // How many bytes a block has.
 pub const BLOCK: usize = 256;

@@ -1,11 +1,11 @@
 -- An answer of 13 to an instruction: no check gives it, and the writing of an entry gives no other refusal.
 use Rattle.std.proofs.Common.{◌≡◌, ℕ, zero, suc, ◌<◌, leb, Bool, true, false, cond, not, ◌&&◌, eqb, List, [], ◌∷◌, Some, None, Ok, Err, Option, Result, sym, refl, ap, ◌∙◌, subst, arith}
 use Rattle.std.proofs.lemmas.Bool.{and_parts, cond-false, lt-leb, eqb-true, both_ways, eq-eqb}
-use Rattle.answers.specs.declared.Refusal.{Refusal}
-use Rattle.answers.specs.declared.Refusal.TheVariants.{NoCalls, OpeningRefused, EngineDown, JournalFull}
-use Rattle.answers.specs.declared.Fault.{Fault}
-use Rattle.answers.specs.Faults.{plain, at_block, of_trade, in_entry}
-use Rattle.answers.specs.Numbers.{number_of, fault_number}
+use Rattle.refusals.specs.declared.Refusal.{Refusal}
+use Rattle.refusals.specs.declared.Refusal.TheVariants.{NoCalls, OpeningRefused, EngineDown, JournalFull}
+use Rattle.refusals.specs.declared.Fault.{Fault}
+use Rattle.refusals.specs.Faults.{plain, at_block, of_trade, in_entry}
+use Rattle.refusals.specs.Numbers.{number_of, fault_number}
 use Rattle.instruction.specs.declared.Instruction.{Instruction}
 use Rattle.instruction.specs.Kinds.{kind_at}
 use Rattle.instruction.specs.declared.Kind.TheVariants.{Issue}

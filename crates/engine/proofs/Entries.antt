@@ -1,7 +1,7 @@
 -- What the four calls of an entry leave, where the first two were answered 0.
 use Rattle.std.proofs.Common.{◌≡◌, ℕ, ◌+◌, ◌-◌, ◌<◌, false, List, length, Ok, Err, ◌∙◌, arith}
 use Rattle.std.proofs.lemmas.Bool.{false_from_ne_true, both_ways}
-use Rattle.answers.specs.declared.Fault.{Fault}
+use Rattle.refusals.specs.declared.Fault.{Fault}
 use Rattle.device.specs.Medium.{Medium}
 use Rattle.device.specs.Calls.{Answer, Write, Sync}
 use Rattle.device.proofs.Answered.{write-passed, write-refused, sync-passed, sync-refused}

@@ -1,6 +1,6 @@
 -- An instruction that the checks let pass.
 use Rattle.std.proofs.Common.{◌≡◌, ◌<◌, Ok, Err, sym, refl, arith}
-use Rattle.answers.specs.declared.Fault.{Fault}
+use Rattle.refusals.specs.declared.Fault.{Fault}
 use Rattle.instruction.specs.declared.Instruction.{Instruction}
 use Rattle.rulebook.specs.Rules.{Rulebook, answer, verdict}
 use Rattle.ledger.proofs.Carried.{accepts}

@@ -1,6 +1,6 @@
 -- What a device keeps for an opening to find.
 use Rattle.std.proofs.Common.{◌≡◌, ℕ, ◌+◌, ◌*◌, ◌≤◌, ◌⊎◌, List, [], ◌∷◌, ◌++◌, length, Some, None, Ok, Option}
-use Rattle.answers.specs.Numbers.{number_of}
+use Rattle.refusals.specs.Numbers.{number_of}
 use Rattle.instruction.specs.declared.Instruction.{Instruction}
 use Rattle.rulebook.specs.Rules.{Rulebook, Standing, Runs, answer}
 use Rattle.device.specs.Medium.{Medium}

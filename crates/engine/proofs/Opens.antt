@@ -1,6 +1,6 @@
 -- The engine that an opening gives.
 use Rattle.std.proofs.Common.{◌≡◌, ℕ, Result, refl}
-use Rattle.answers.specs.declared.Fault.{Fault}
+use Rattle.refusals.specs.declared.Fault.{Fault}
 use Rattle.rulebook.specs.Terms.{securities, cash}
 use Rattle.rulebook.specs.Rules.{Rulebook, Standing}
 use Rattle.device.specs.Medium.{Medium}

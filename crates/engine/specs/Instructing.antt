@@ -1,8 +1,8 @@
 -- What an instruction is answered, and what it leaves of the engine. Assumes nothing.
 use Rattle.std.specs.Prelude.{◌≡◌, ℕ, ◌+◌, ◌<◌, cond, ◌&&◌, Some, None, Ok, Err, Option, ◌==◌, ◌≢◌, nat_le}
-use Rattle.answers.specs.Numbers.{numbered, number_of, fault_number}
-use Rattle.answers.specs.declared.Fault.{Fault}
-use Rattle.answers.specs.Faults.{in_entry}
+use Rattle.refusals.specs.Numbers.{numbered, number_of, fault_number}
+use Rattle.refusals.specs.declared.Fault.{Fault}
+use Rattle.refusals.specs.Faults.{in_entry}
 use Rattle.instruction.specs.declared.Instruction.{Instruction}
 use Rattle.rulebook.specs.Rules.{Rulebook, about, fault_of, answer, verdict, effect}
 use Rattle.device.specs.Calls.{Answer, and_then}

@@ -1,9 +1,9 @@
 -- What slips hold, and the verdict on one. Assumes nothing.
 use Rattle.std.specs.Prelude.{◌≡◌, ℕ, ◌+◌, Bool, false, cond, ◌&&◌, Some, None, Ok, Err, Option, Result, ◌==◌, ◌≢◌}
-use Rattle.answers.specs.declared.Refusal.{Refusal}
-use Rattle.answers.specs.declared.Place.{Place}
-use Rattle.answers.specs.declared.Place.TheVariants.{Engine}
-use Rattle.answers.specs.Numbers.{number_of as refusal_number}
+use Rattle.refusals.specs.declared.Refusal.{Refusal}
+use Rattle.refusals.specs.declared.Place.{Place}
+use Rattle.refusals.specs.declared.Place.TheVariants.{Engine}
+use Rattle.refusals.specs.Numbers.{number_of as refusal_number}
 use Rattle.instruction.specs.declared.Instruction.{Instruction}
 use Rattle.engine.specs.declared.slip.Slip.{Slip}
 use Rattle.engine.specs.declared.slip.Contents.{Contents}

@@ -1,8 +1,8 @@
 -- What an opening finds and why it is refused, on a device that may hold anything.
 use Rattle.std.specs.Prelude.{◌≡◌, ℕ, ◌+◌, ◌*◌, ◌<◌, ◌≤◌, ◌⊎◌, cond, ◌&&◌, List, Some, None, Err, Option, ◌≢◌, nat_le}
-use Rattle.answers.specs.Numbers.{number_of}
-use Rattle.answers.specs.declared.Refusal.{Refusal}
-use Rattle.answers.specs.declared.Fault.{Fault}
+use Rattle.refusals.specs.Numbers.{number_of}
+use Rattle.refusals.specs.declared.Refusal.{Refusal}
+use Rattle.refusals.specs.declared.Fault.{Fault}
 use Rattle.instruction.specs.declared.Instruction.{Instruction}
 use Rattle.instruction.specs.Layout.{Fit}
 use Rattle.rulebook.specs.Terms.{securities, cash}

@@ -1,8 +1,8 @@
 -- Which calls an engine makes to its device. Assumes nothing.
 use Rattle.std.specs.Prelude.{ℕ, zero, suc, ◌+◌, cond, List, [], ◌∷◌, ◌++◌, take, Some, None, Ok, Err, Option, Result, nat_lt}
-use Rattle.answers.specs.declared.Fault.{Fault}
+use Rattle.refusals.specs.declared.Fault.{Fault}
 use Rattle.instruction.specs.declared.Instruction.{Instruction}
-use Rattle.book.specs.Rulings.{on_ok}
+use Rattle.refusals.specs.Answers.{if_ok}
 use Rattle.rulebook.specs.Rules.{Rulebook}
 use Rattle.device.specs.declared.TheConstants.{BLOCK}
 use Rattle.device.specs.Medium.{Medium}
@@ -22,7 +22,7 @@ entry_calls k x left = take (left + 1) (writing (record_at k) (record_bytes k x)
 
 -- those of an instruction: none where a check refuses it
 abbrev pub instruct_calls : Rulebook → Instruction → View → List DeviceCall
-instruct_calls h x v = on_ok (checked h x v) (entry_calls v.count x v.medium.left) []
+instruct_calls h x v = if_ok (checked h x v) (entry_calls v.count x v.medium.left) []
 
 -- a read of a whole block
 abbrev pub block_read : ℕ → DeviceCall

@@ -9,9 +9,9 @@ ghost use Rattle.engine.specs.Asking.{opening_answer, if_answering, presented};
 
 use crate::engine::{Engine, Mode};
 use crate::slip::{Slip, Verdict};
-use answers::{Fault, Refusal};
 use book::{Book, Holding};
 use device::Device;
+use refusals::{Fault, Refusal};
 use rulebook::State;
 
 impl<D: Device, R: Book, C: Book> Engine<D, R, C> {

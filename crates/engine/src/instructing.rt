@@ -9,10 +9,10 @@ ghost use Rattle.engine.specs.Tracing.{instruct_calls};
 
 use crate::engine::{Engine, Mode};
 use crate::writing::enter;
-use answers::{Fault, Refusal};
 use book::Book;
 use device::Device;
 use instruction::Instruction;
+use refusals::{Fault, Refusal};
 use rulebook::about;
 
 impl<D: Device, R: Book, C: Book> Engine<D, R, C> {

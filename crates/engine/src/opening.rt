@@ -13,12 +13,12 @@ ghost use Rattle.engine.specs.View.{view};
 
 pub use crate::engine::Recovered;
 use crate::engine::{Engine, Mode};
-use answers::{Fault, Refusal};
 use book::Book;
 use device::{BLOCK, Device};
 use instruction::Instruction;
 use journal::{Header, is_good_mark, read_record};
 use ledger::Ledger;
+use refusals::{Fault, Refusal};
 
 // What is asked of an entry below speaks of the device that it lies on. A type for that its number is small would be no
 // plainer, since it would leave the other fact.

@@ -2,8 +2,8 @@
 ghost use Rattle.std.specs.Prelude.{◌≡◌, true, is_some};
 ghost use Rattle.engine.specs.Slips.{contents, IsOwed, judged, Judges, number_of, verdict_place, PresentedApart, is_last};
 
-use answers::Place;
 use instruction::Instruction;
+use refusals::Place;
 
 // What a slip tells: the number of standing entries, and the instruction in hand.
 #[derive(Clone, Copy, Debug, PartialEq, Eq)]

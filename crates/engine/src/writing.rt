@@ -5,10 +5,10 @@ ghost use Rattle.journal.specs.Journal.{enter_answer, Entered};
 ghost use Rattle.journal.specs.Blocks.{record_bytes, mark_bytes};
 ghost use Rattle.engine.specs.Tracing.{entry_calls};
 
-use answers::Fault;
 use device::Device;
 use instruction::Instruction;
 use journal::{mark_block, record_block};
+use refusals::Fault;
 
 // One sync for both would let the mark outlive its record.
 pub(crate) fn enter<D: Device>(device: &mut D, entry: u32, x: &Instruction) -> Result<(), Fault>

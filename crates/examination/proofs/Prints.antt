@@ -1,8 +1,8 @@
 -- What the program prints: its device can be formatted, so a script gets its key unless it is too long; and that key is one.
 use Rattle.std.proofs.Common.{◌≡◌, ℕ, List, length, drop, Ok, Err, inl, inr, sym, refl, ap, ◌∙◌, subst, arith}
 use Rattle.std.proofs.lemmas.List.{length-replicate}
-use Rattle.answers.specs.declared.Refusal.TheVariants.{InputTooLong}
-use Rattle.answers.specs.declared.Fault.{Fault}
+use Rattle.refusals.specs.declared.Refusal.TheVariants.{InputTooLong}
+use Rattle.refusals.specs.declared.Fault.{Fault}
 use Rattle.book.specs.Holdings.{Holdings, nothing}
 use Rattle.ledger.specs.View.{by_side}
 use Rattle.device.specs.Images.{imaged}

@@ -1,7 +1,7 @@
 -- What the lines of a script are answered, from the replies to their calls.
 use Rattle.std.specs.Prelude.{◌≡◌, ◌-◌, true, List, [], ◌∷◌, length, drop, Ok, Err, Result, is_some, slice_index_or}
-use Rattle.answers.specs.declared.Refusal.{Refusal}
-use Rattle.answers.specs.declared.Fault.{Fault}
+use Rattle.refusals.specs.declared.Refusal.{Refusal}
+use Rattle.refusals.specs.declared.Fault.{Fault}
 use Rattle.script.specs.declared.Request.{Request}
 use Rattle.depository.specs.declared.calls.Reply.{Reply}
 use Rattle.depository.specs.declared.calls.Reply.TheVariants.{Done, Instructed, Opened, Told, Misfit}

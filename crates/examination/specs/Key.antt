@@ -1,7 +1,7 @@
 -- The key of a script.
 use Rattle.std.specs.Prelude.{◌≡◌, ℕ, ◌+◌, ◌*◌, ◌<◌, ◌≤◌, ◌⊎◌, List, length, drop, Err}
 use Rattle.std.specs.List.{AllByRecursion}
-use Rattle.answers.specs.Faults.{fault}
+use Rattle.refusals.specs.Faults.{fault}
 use Rattle.book.specs.Holdings.{Holdings}
 use Rattle.rulebook.specs.Terms.{Side}
 use Rattle.rulebook.specs.Rules.{Rulebook}

@@ -1,7 +1,7 @@
 -- What the lines of a script ask of a depository.
 use Rattle.std.specs.Prelude.{ℕ, List, [], ◌∷◌, map, Ok, Err, Result}
 use Rattle.std.specs.List.{flat_map}
-use Rattle.answers.specs.declared.Refusal.{Refusal}
+use Rattle.refusals.specs.declared.Refusal.{Refusal}
 use Rattle.script.specs.declared.Request.{Request}
 use Rattle.script.specs.declared.Request.TheVariants.{Instruct, Register, Cash, Cut}
 use Rattle.script.specs.Requests.{request_in, remains_of}

@@ -1,7 +1,7 @@
 -- The device and the books on which the program answers a script.
 use Rattle.std.specs.Prelude.{◌≡◌, ℕ, ◌<◌, ◌⊎◌, List, length, replicate}
 use Rattle.std.specs.List.{AllByRecursion}
-use Rattle.answers.specs.Numbers.{numbered}
+use Rattle.refusals.specs.Numbers.{numbered}
 use Rattle.book.specs.Holdings.{Holdings, nothing}
 use Rattle.balances.specs.Rows.{balances_kind}
 use Rattle.rulebook.specs.Terms.{Side}

@@ -2,10 +2,10 @@
 ghost use Rattle.std.specs.Prelude.{◌≡◌};
 ghost use Rattle.examination.specs.Answers.{answer_of, reopening_of};
 
-use answers::Refusal;
 use book::Holding;
 use depository::{Fact, Opened, Reply};
 use engine::Verdict;
+use refusals::Refusal;
 
 // What an opening and the last slip answered, of which a key tells no fault but its number.
 #[derive(Clone, Copy)]

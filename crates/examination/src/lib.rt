@@ -13,13 +13,13 @@ mod program;
 pub mod text;
 
 pub use answer::{Answer, Reopening};
-use answers::{Fault, Refusal};
 use book::Book;
 pub use depository::Stop;
 use depository::{Call, Reply, serve};
 use device::{Device, PoweredDevice};
 use lines::{answers_for, calls_for, read_requests};
 pub use program::examine;
+use refusals::{Fault, Refusal};
 use std::alloc::Global;
 
 // The most bytes that a script may have.

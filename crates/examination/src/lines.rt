@@ -5,8 +5,8 @@ ghost use Rattle.examination.specs.Orders.{orders_of, orders_for, requests_in};
 ghost use Rattle.examination.specs.Answers.{line_answer, answers_for};
 
 use crate::answer::Answer;
-use answers::Refusal;
 use depository::{Call, Question, Reply};
+use refusals::Refusal;
 use script::{Lines, Request, read_line};
 use std::alloc::{AllocError, Global};
 

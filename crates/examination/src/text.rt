@@ -5,8 +5,8 @@ ghost use Rattle.examination.specs.Texts.{line_text, key_text, refused_text};
 ghost use Rattle.examination.specs.declared.answer.Answer.TheVariants.{Reopened};
 
 use crate::answer::{Answer, Reopening};
-use answers::{Refusal, answer_number};
 use engine::Verdict;
+use refusals::{Refusal, answer_number};
 use std::alloc::{AllocError, Global};
 
 fn presented_number(presented: Result<Verdict, Refusal>) -> u8

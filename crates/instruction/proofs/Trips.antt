@@ -4,7 +4,7 @@ use Rattle.std.proofs.Math.Nat.{div-div-eq-div-mul, div-one, mul_comm}
 use Rattle.std.proofs.lemmas.Bool.{eqb-true, and_parts}
 use Rattle.little_endian.specs.Little.{bytes, part}
 use Rattle.little_endian.proofs.Widths.{le-bytes, part-back, part-whole}
-use Rattle.answers.specs.declared.Refusal.TheVariants.{Malformed}
+use Rattle.refusals.specs.declared.Refusal.TheVariants.{Malformed}
 use Rattle.instruction.specs.declared.Instruction.{Instruction}
 use Rattle.instruction.specs.Layout.{bytes_of, instruction_in, fields, unused_zero, IsInstruction, Lies, LaidOut, Reads, Fit}
 

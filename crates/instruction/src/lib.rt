@@ -5,8 +5,8 @@ ghost use Rattle.std.specs.Prelude.{◌≡◌, ◌+◌, ◌≤◌, length, Ok};
 ghost use Rattle.instruction.specs.Kinds.{code_of, Decodes, KindsAndCodes};
 ghost use Rattle.instruction.specs.Layout.{of_kind, on_trade, bytes_of, instruction_in, field, LaidOut, Reads};
 
-use answers::Refusal;
 use little_endian::LittleEndian;
+use refusals::Refusal;
 
 // What an instruction asks for.
 #[derive(Clone, Copy, Debug, PartialEq, Eq)]

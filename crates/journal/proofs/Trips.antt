@@ -4,9 +4,9 @@ use Rattle.std.proofs.lemmas.Bool.{eq-eqb, eqb-true, lt-ltb, ltb-true, and_parts
 use Rattle.std.proofs.lemmas.List.{take-append-drop, drop-drop}
 use Rattle.little_endian.specs.Little.{le, bytes, part}
 use Rattle.little_endian.proofs.Widths.{le-bytes, part-back}
-use Rattle.answers.specs.Numbers.{number_of}
-use Rattle.answers.specs.declared.Refusal.{Refusal}
-use Rattle.answers.specs.declared.Refusal.TheVariants.{NotAHeader, Malformed}
+use Rattle.refusals.specs.Numbers.{number_of}
+use Rattle.refusals.specs.declared.Refusal.{Refusal}
+use Rattle.refusals.specs.declared.Refusal.TheVariants.{NotAHeader, Malformed}
 use Rattle.instruction.specs.declared.Instruction.{Instruction}
 use Rattle.instruction.specs.Layout.{instruction_in, unused_zero, field, Reads, Fit}
 use Rattle.instruction.proofs.Trips.{there, reads}

@@ -1,6 +1,6 @@
 -- What making a device into a journal answers and leaves, by the calls left. Assumes nothing.
 use Rattle.std.specs.Prelude.{◌≡◌, ℕ, zero, suc, ◌+◌, ◌-◌, ◌*◌, ◌<◌, Bool, false, cond, ◌||◌, List, [], ◌∷◌, ◌++◌, take, Some, Ok, Err, ◌==◌, ◌≢◌, nat_lt}
-use Rattle.answers.specs.Faults.{fault, fault_at}
+use Rattle.refusals.specs.Faults.{fault, fault_at}
 use Rattle.device.specs.Medium.{Medium}
 use Rattle.device.specs.Calls.{Answer}
 use Rattle.device.specs.Traces.{DeviceCall, writing, syncing}

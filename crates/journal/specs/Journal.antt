@@ -1,6 +1,6 @@
 -- What a journal holds on its device, between calls, and what writing an entry leaves. Assumes nothing.
 use Rattle.std.specs.Prelude.{◌≡◌, ℕ, ◌+◌, ◌-◌, ◌*◌, ◌<◌, ◌≤◌, false, cond, ◌⊎◌, List, length, Some, None, Ok, Err, Option, ◌==◌, ◌≢◌, slice_index_or}
-use Rattle.answers.specs.Faults.{fault, fault_at}
+use Rattle.refusals.specs.Faults.{fault, fault_at}
 use Rattle.device.specs.Medium.{Medium}
 use Rattle.device.specs.Calls.{Answer}
 

@@ -8,8 +8,8 @@ ghost use Rattle.journal.specs.Places.{FormatPlaces};
 ghost use Rattle.journal.specs.Format.{header_for, no_room, format_answer, Formatted, keep_answer, Kept, blank_answer, Blanked, mark_writes, format_calls};
 
 use crate::header::{Header, MOST_PAIRS};
-use answers::{Fault, Refusal};
 use device::{BLOCK, Device};
+use refusals::{Fault, Refusal};
 
 const ZEROS: [u8; BLOCK] = [0; BLOCK];
 

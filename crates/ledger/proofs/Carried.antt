@@ -3,13 +3,14 @@ use Rattle.std.proofs.Common.{◌≡◌, ℕ, ◌<◌, true, false, cond, List, 
 use Rattle.std.proofs.lemmas.Grind.{common_steps, get_or-set_at}
 use Rattle.std.proofs.lemmas.Bool.Decides.{nat_tests}
 use Rattle.std.proofs.lemmas.Bool.{cond-false}
-use Rattle.answers.specs.declared.Refusal.{Refusal}
-use Rattle.answers.specs.declared.Fault.{Fault}
+use Rattle.refusals.specs.declared.Refusal.{Refusal}
+use Rattle.refusals.specs.declared.Fault.{Fault}
 use Rattle.instruction.specs.declared.Kind.TheVariants.{Issue, PayIn, Enter}
 use Rattle.instruction.specs.declared.Instruction.{Instruction}
 use Rattle.instruction.specs.Kinds.{kind_at}
 use Rattle.book.specs.declared.Book as book
-use Rattle.book.specs.Rulings.{first, on_ok}
+use Rattle.refusals.specs.Answers.{if_ok}
+use Rattle.book.specs.Rulings.{first}
 use Rattle.rulebook.specs.declared.State.{State}
 use Rattle.rulebook.specs.declared.State.TheVariants.{Entered}
 use Rattle.rulebook.specs.declared.Terms.{Terms}
@@ -85,7 +86,7 @@ pub accepts : (x : Instruction) (r : Result (Unit {0}) Refusal) → with_trade x
 accepts x (Ok u) e = refl
 accepts x (Err r) e = cc
 
-unmoved : (s t : Standing) (x : Instruction) (f : Fault) (r : Result (Unit {0}) Refusal) → with_trade x r ≡ Err f → on_ok r t s ≡ s
+unmoved : (s t : Standing) (x : Instruction) (f : Fault) (r : Result (Unit {0}) Refusal) → with_trade x r ≡ Err f → if_ok r t s ≡ s
 unmoved s t x f (Ok u) e = cc
 unmoved s t x f (Err r) e = refl
 

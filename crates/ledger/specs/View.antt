@@ -1,8 +1,8 @@
 -- What a contract sees of a ledger, and where the ledger stands. Assumes nothing.
 use Rattle.std.specs.Prelude.{◌≡◌, ℕ, List, [], map, Some, Ok, Err, Result, slice_index_or}
 use Rattle.std.specs.List.{range_with_len}
-use Rattle.answers.specs.declared.Refusal.{Refusal}
-use Rattle.answers.specs.declared.Fault.{Fault}
+use Rattle.refusals.specs.declared.Refusal.{Refusal}
+use Rattle.refusals.specs.declared.Fault.{Fault}
 use Rattle.instruction.specs.declared.Kind.{Kind}
 use Rattle.instruction.specs.declared.Instruction.{Instruction}
 use Rattle.book.specs.declared.Book as book

@@ -1,15 +1,15 @@
 // The rules' answer to an instruction, with nothing changed.
 ghost use Rattle.std.specs.Prelude.{◌≡◌, if◌then◌else◌, Some, Ok, Err, nat_lt};
-ghost use Rattle.answers.specs.Numbers.{numbered};
+ghost use Rattle.refusals.specs.Numbers.{numbered};
 ghost use Rattle.instruction.specs.Kinds.{kind_at};
 ghost use Rattle.book.specs.Rulings.{first};
 ghost use Rattle.rulebook.specs.Rules.{stray, enter_checks, answer_as, verdict};
 ghost use Rattle.ledger.specs.View.{rulebook, standing_in, IsJudged};
 
 use crate::parts::Parts;
-use answers::{Fault, Refusal};
 use book::{ACCOUNTS, Book};
 use instruction::{Instruction, Kind};
+use refusals::{Fault, Refusal};
 use rulebook::about;
 
 // A field that the kind does not use is not 0: the instruction is not the one with those fields left out.

@@ -14,10 +14,10 @@ mod judging;
 mod parts;
 pub mod trades;
 
-use answers::{Fault, Refusal};
 use book::{Book, Holding};
 use instruction::Instruction;
 use parts::Parts;
+use refusals::{Fault, Refusal};
 use rulebook::{State, TRADES};
 use std::marker::Model;
 use trades::Trades;

@@ -12,8 +12,8 @@ ghost use Rattle.lots.specs.Laws;
 ghost use Rattle.lots.specs.Laws.{free-outside, blocked-outside};
 ghost use Rattle.std.proofs.Common.{rules};
 
-use answers::Refusal;
 use book::{ACCOUNTS, Book, Holding, covers};
+use refusals::Refusal;
 use table::Lot;
 pub use table::Lots;
 

@@ -1,8 +1,8 @@
 -- What giving an instruction leaves. Assumes nothing.
 use Rattle.std.proofs.Common.{◌≡◌, [], ◌∷◌, ◌++◌, Ok, Err, Result, sym, refl, ap, ◌∙◌, subst}
-use Rattle.answers.specs.declared.Refusal.{Refusal}
+use Rattle.refusals.specs.declared.Refusal.{Refusal}
 use Rattle.instruction.specs.declared.Instruction.{Instruction}
-use Rattle.book.specs.Rulings.{on_ok}
+use Rattle.refusals.specs.Answers.{if_ok}
 use Rattle.rulebook.specs.Table.{Steps}
 use Rattle.rulebook.specs.Rules.{Rulebook, Standing, answer, effect, step, more, Reached}
 use Rattle.rulebook.specs.Law.{Given}
@@ -11,13 +11,13 @@ use Rattle.rulebook.proofs.Meanings.{moves}
 
 -- an accepted instruction takes effect, and a refused one changes nothing
 pub accepted : (h : Rulebook) (s : Standing) (x : Instruction) → answer h s x ≡ Ok tt → step h s x ≡ effect s x
-accepted h s x e = ap (λ r. on_ok r (effect s x) s) e
+accepted h s x e = ap (λ r. if_ok r (effect s x) s) e
 
 pub refused : (h : Rulebook) (s : Standing) (x : Instruction) (f : Refusal) → answer h s x ≡ Err f → step h s x ≡ s
-refused h s x f e = ap (λ r. on_ok r (effect s x) s) e
+refused h s x f e = ap (λ r. if_ok r (effect s x) s) e
 
 -- either way accepted instructions lead there
-stepped : (h : Rulebook) (s : Standing) (x : Instruction) → Reached h s → (r : Result (Unit {0}) Refusal) → answer h s x ≡ r → Reached h (on_ok r (effect s x) s)
+stepped : (h : Rulebook) (s : Standing) (x : Instruction) → Reached h s → (r : Result (Unit {0}) Refusal) → answer h s x ≡ r → Reached h (if_ok r (effect s x) s)
 stepped h s x (xs, run) (Ok u) e = (xs ++ (x ∷ []), more x run e)
 stepped h s x z (Err f) e = z
 

@@ -1,15 +1,16 @@
 -- The rule book: what an instruction is answered, and what an accepted one changes.
 use Rattle.std.specs.Prelude.{◌≡◌, ℕ, ◌≤◌, Bool, true, false, cond, not, ◌||◌, T, leb, List, [], ◌∷◌, ◌++◌, Some, None, Ok, Err, Option, Result, ◌==◌, nat_eq, nat_le, nat_lt}
 use Rattle.std.specs.Option.{option_map}
-use Rattle.answers.specs.declared.Refusal.{Refusal}
-use Rattle.answers.specs.declared.Fault.{Fault}
-use Rattle.answers.specs.Faults.{plain, of_trade}
+use Rattle.refusals.specs.declared.Refusal.{Refusal}
+use Rattle.refusals.specs.declared.Fault.{Fault}
+use Rattle.refusals.specs.Faults.{plain, of_trade}
 use Rattle.instruction.specs.declared.Kind.TheVariants.{Issue, PayIn, Enter, Earmark, Fund, Settle, Free}
 use Rattle.instruction.specs.declared.Instruction.{Instruction}
 use Rattle.instruction.specs.Kinds.{kind_at}
 use Rattle.book.specs.declared.TheConstants.{ACCOUNTS}
 use Rattle.book.specs.Holdings.{Holdings, BookKind, nothing, Deed, keep, crediting, blocking, releasing, moving, apply}
-use Rattle.book.specs.Rulings.{Check, ◌refuses◌, first, checks, on_ok}
+use Rattle.refusals.specs.Answers.{if_ok}
+use Rattle.book.specs.Rulings.{Check, ◌refuses◌, first, checks}
 use Rattle.rulebook.specs.declared.TheConstants.{TRADES}
 use Rattle.rulebook.specs.declared.State.{State}
 use Rattle.rulebook.specs.declared.State.TheVariants.{Unentered, Earmarked, Funded, Settled}
@@ -202,7 +203,7 @@ effect s x =
 
 -- an accepted instruction takes effect, a refused one changes nothing
 abbrev pub step : Rulebook → Standing → Instruction → Standing
-step h s x = on_ok (answer h s x) (effect s x) s
+step h s x = if_ok (answer h s x) (effect s x) s
 
 -- the list, from the empty standing, is accepted one instruction after another and leads to s
 pub data Runs (h : Rulebook) : List Instruction → Standing → Type 0 where

@@ -6,8 +6,8 @@ ghost use Rattle.rulebook.specs.Table.{next as next_state};
 ghost use Rattle.rulebook.specs.Terms.{terms_of};
 ghost use Rattle.rulebook.specs.Rules.{turned_trade, about as about_trade, IsAbout};
 
-use answers::Fault;
 use instruction::{Instruction, Kind};
+use refusals::Fault;
 
 // How many trades there are, numbered from 0.
 pub const TRADES: usize = 128;

@@ -12,8 +12,8 @@ mod rows;
 mod state;
 mod sweeps;
 
-use answers::Fault;
 use device::{Device, PoweredDevice};
+use refusals::Fault;
 use rows::{Halves, row_is_loose};
 pub use state::Simulated;
 use sweeps::restart_all;

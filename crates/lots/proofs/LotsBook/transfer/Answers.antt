@@ -1,5 +1,5 @@
 use Rattle.std.proofs.Common.{rules}
-use Rattle.answers.specs.declared.Refusal.TheVariants.{OverBlocked}
+use Rattle.refusals.specs.declared.Refusal.TheVariants.{OverBlocked}
 use Rattle.book.specs.Rulings.{holding_at}
 use Rattle.book.proofs.Accepted.{asked-part}
 use Rattle.lots.specs.Owners.{lots_kind}

@@ -1,5 +1,6 @@
 use Rattle.std.proofs.Common.{ℕ, ◌-◌, List, vec_items, ap, ◌∙◌, subst}
-use Rattle.device.specs.Calls.{Answer, if_ok}
+use Rattle.refusals.specs.Answers.{if_ok}
+use Rattle.device.specs.Calls.{Answer}
 use Rattle.device.specs.Images.{blocks, EachRow}
 use Rattle.device.proofs.Rows.{same-blocks}
 use Rattle.simulated.specs.Rows.{synced, ImageSynced}
