@@ -3,10 +3,10 @@ use Rattle.std.proofs.Common.{◌≡◌, ℕ, ◌<◌, false, eqb, refl, ap, ari
 use Rattle.std.proofs.lemmas.Bool.{eq-eqb, lt-leb}
 use Rattle.refusals.specs.Numbers.{answer_number}
 use Rattle.instruction.specs.declared.Kind.TheVariants.{Settle}
-use Rattle.book.specs.Sums.{only}
+use Rattle.book.specs.Sums.{amount_if}
 use Rattle.book.specs.Holdings.{nothing, total, crediting, blocking, apply}
 use Rattle.book.specs.Rulings.{ruling, outcome}
-use Rattle.book.proofs.Sums.{up_to-zero}
+use Rattle.book.proofs.Sums.{sum_below-zero}
 use Rattle.rulebook.specs.declared.State.TheVariants.{Earmarked}
 use Rattle.rulebook.specs.Rules.{Rulebook, Standing, empty, answer}
 use Rattle.book.proofs.Totals.{total-credit}
@@ -19,7 +19,7 @@ use Rattle.check_trials.specs.ByHand.{order}
 use Rattle.check_trials.specs.Marked.{MarkedTrials}
 
 nothing-in-all : (i : ℕ) → total nothing i ≡ 0
-nothing-in-all i = up_to-zero 64 (λ a. 0) (λ a. refl)
+nothing-in-all i = sum_below-zero 64 (λ a. 0) (λ a. refl)
 
 pub block-of-nothing : (a i : ℕ) → a < 64 → i < 16 → answer_number (ruling balances_kind nothing (blocking a i 1)) ≡ 25
 block-of-nothing a i la li = rw (lt-leb 64 a la, lt-leb 16 i li)
@@ -30,7 +30,7 @@ credit-to-ceiling a i la li = rw (lt-leb 64 a la, lt-leb 16 i li, nothing-in-all
 filled : (a i : ℕ) → a < 64 → total (apply nothing (crediting a i 1000000000000)) i ≡ 1000000000000
 filled a i la =
     let t = total-credit nothing a i 1000000000000 i la in
-    let o : only (eqb i i) 1000000000000 ≡ 1000000000000 = ap (λ b. only b 1000000000000) (eq-eqb i i refl) in
+    let o : amount_if (eqb i i) 1000000000000 ≡ 1000000000000 = ap (λ b. amount_if b 1000000000000) (eq-eqb i i refl) in
     let z = nothing-in-all i in
     omega arith
 

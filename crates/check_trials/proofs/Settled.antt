@@ -2,9 +2,9 @@
 use Rattle.std.proofs.Common.{◌≡◌, ℕ, Ok, Result, refl, ap, ◌∙◌}
 use Rattle.refusals.specs.declared.Refusal.{Refusal}
 use Rattle.instruction.specs.declared.Instruction.{Instruction}
-use Rattle.book.specs.Sums.{up_to}
+use Rattle.book.specs.Sums.{sum_below}
 use Rattle.book.specs.declared.Holding.{Holding}
-use Rattle.book.specs.Rulings.{holding_at}
+use Rattle.book.specs.Rulings.{holding_of}
 use Rattle.rulebook.specs.Terms.{Side, securities, cash}
 use Rattle.rulebook.specs.Rules.{Rulebook, Standing, step}
 use Rattle.rulebook.specs.Law.{Given}
@@ -12,7 +12,7 @@ use Rattle.check_trials.specs.declared.Settlement.{Settlement}
 use Rattle.check_trials.specs.ByHand.{trade_7, after_all, EightAmounts, eight_amounts, AnsweredByHand}
 
 pub settled : EightAmounts (after_all trade_7)
-unfolding up_to
+unfolding sum_below
 settled = record {
   seller-item-free = refl;
   seller-item-blocked = refl;
@@ -25,7 +25,7 @@ settled = record {
 }
 
 pub answered-by-hand : AnsweredByHand
-unfolding up_to
+unfolding sum_below
 answered-by-hand = record {
   unknown-kind = refl;
   stray-field = refl;
@@ -47,16 +47,16 @@ led {h} {s} {t} {u} {x} {y} g e f = g.after ∙ ap (λ s. step h s x) e ∙ ap (
 
 -- what a question answers after the settlement
 pub answered : (d : Side) (a i : ℕ) (s : Standing) {r : Result Holding Refusal} → s ≡ after_all trade_7
-    → r ≡ Ok (holding_at (s.book d) a i) → r ≡ Ok (holding_at ((after_all trade_7).book d) a i)
-answered d a i s e f = f ∙ ap (λ (s : Standing). Ok (holding_at (s.book d) a i)) e
+    → r ≡ Ok (holding_of (s.book d) a i) → r ≡ Ok (holding_of ((after_all trade_7).book d) a i)
+answered d a i s e f = f ∙ ap (λ (s : Standing). Ok (holding_of (s.book d) a i)) e
 
 -- the eight amounts as the code answers them
 abbrev pub answered_after : Standing → Settlement
 answered_after s = record {
-  seller_item = holding_at (s.book securities) 1 3;
-  buyer_item = holding_at (s.book securities) 2 3;
-  seller_currency = holding_at (s.book cash) 1 4;
-  buyer_currency = holding_at (s.book cash) 2 4;
+  seller_item = holding_of (s.book securities) 1 3;
+  buyer_item = holding_of (s.book securities) 2 3;
+  seller_currency = holding_of (s.book cash) 1 4;
+  buyer_currency = holding_of (s.book cash) 2 4;
 }
 
 pub eight : answered_after (after_all trade_7) ≡ eight_amounts

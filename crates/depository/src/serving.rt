@@ -34,7 +34,7 @@ impl<D: PoweredDevice, R: Book, C: Book> Depository<D, R, C> {
     fn run(self, calls: &[Call<'_>], replies: &mut Vec<Reply>) -> Self
         requires room { vec_len replies.old + length calls.now ≤ vec_capacity replies.old }
         requires none { replies.old.items ≡ [] }
-        ensures path { Path D.makes D.Device.medium (rulebook R.fixed C.fixed) D.PoweredDevice.most
+        ensures path { Path D.makes D.Device.medium (rulebook R.book_kind C.book_kind) D.PoweredDevice.most
             (moment_of self) (device_of self.condition) (map order calls.now) replies.new.items
             (moment_of result) (device_of result.condition) }
         ensures room { vec_capacity replies.new ≡ vec_capacity replies.old }
@@ -65,7 +65,7 @@ fn format_for<D: Device, R: Book, C: Book>(
     register: &R,
     cash: &C,
 ) -> Result<(), Fault>
-    ensures { AfterFormat D.makes D.medium (rulebook R.fixed C.fixed) pairs
+    ensures { AfterFormat D.makes D.medium (rulebook R.book_kind C.book_kind) pairs
         device.old result device.new }
 {
     format(device, pairs, register.kind(), cash.kind())
@@ -82,7 +82,7 @@ pub fn serve<D: PoweredDevice, R: Book, C: Book>(
     calls: &[Call<'_>],
     replies: &mut Vec<Reply>,
 ) -> (Depository<D, R, C>, Result<(), Stop>)
-    ensures served { let h = rulebook R.fixed C.fixed in let means = D.Device.medium in
+    ensures served { let h = rulebook R.book_kind C.book_kind in let means = D.Device.medium in
         let books = by_side (R.holdings register) (C.holdings cash) in
         let b = moment_of result.0 in let e = device_of result.0.condition in
         MatchResult result.1

@@ -9,7 +9,7 @@ use Rattle.refusals.specs.Numbers.{number_of, fault_number}
 use Rattle.instruction.specs.declared.Instruction.{Instruction}
 use Rattle.instruction.specs.Kinds.{kind_at}
 use Rattle.instruction.specs.declared.Kind.TheVariants.{Issue}
-use Rattle.book.specs.Rulings.{Check, first}
+use Rattle.book.specs.Rulings.{Check, first_refusal}
 use Rattle.rulebook.specs.declared.State.{State}
 use Rattle.rulebook.specs.declared.Terms.{Terms}
 use Rattle.rulebook.specs.Table.{Act}
@@ -49,11 +49,11 @@ calm-first-as : (b : Bool) (c r : Refusal) (rest : Result (Unit {0}) Refusal) �
 calm-first-as true c r rest n later e = let q : c ≡ r = cc in grind (arith, n, q)
 calm-first-as false c r rest n later e = later e
 
-calm-first : (cs : List Check) (r : Refusal) → calm cs ≡ true → first cs ≡ Err r → is13 r ≡ false
+calm-first : (cs : List Check) (r : Refusal) → calm cs ≡ true → first_refusal cs ≡ Err r → is13 r ≡ false
 calm-first [] r w e = absurd cc
 calm-first (c ∷ cs) r w e =
     let p = and_parts (not (is13 c.refusal)) (calm cs) w in
-    calm-first-as c.fails c.refusal r (first cs) p.0 (λ q. calm-first cs r p.1 q) e
+    calm-first-as c.fails c.refusal r (first_refusal cs) p.0 (λ q. calm-first cs r p.1 q) e
 
 -- every rule has a number over 20, so that a 13 is never the rules' own
 calm-rules : (h : Rulebook) (k : Act) (o : State) (m : Terms) (s : Standing) (x : Instruction) → calm (all_checks h k o m s x) ≡ true

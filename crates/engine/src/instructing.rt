@@ -18,7 +18,7 @@ use rulebook::about;
 impl<D: Device, R: Book, C: Book> Engine<D, R, C> {
     // The checks of an instruction, with nothing written.
     fn check(&self, x: &Instruction) -> Result<(), Fault>
-        ensures answer { result ≡ checked (rulebook R.fixed C.fixed) x.now (view D.medium self.now) }
+        ensures answer { result ≡ checked (rulebook R.book_kind C.book_kind) x.now (view D.medium self.now) }
         ensures room { IfOk result (λ _. self.now.count < self.now.pairs) }
     {
         match self.mode {
@@ -35,14 +35,14 @@ impl<D: Device, R: Book, C: Book> Engine<D, R, C> {
 
     // Carries out an instruction that the checks let pass, once its entry is written and firm.
     pub fn instruct(&mut self, x: &Instruction) -> Result<(), Fault>
-        ensures done { Instructed (rulebook R.fixed C.fixed) x.now
+        ensures done { Instructed (rulebook R.book_kind C.book_kind) x.now
             (view D.medium self.old) (view D.medium self.new) result }
-        ensures cut { CutShort (rulebook R.fixed C.fixed) x.now
+        ensures cut { CutShort (rulebook R.book_kind C.book_kind) x.now
             (view D.medium self.old) (view D.medium self.new) result }
         ensures places { let v = view D.medium self.old in result ≡ Ok tt
             → EntryPlaces v.count x.now v.medium (view D.medium self.new).medium }
         ensures trace { let v = view D.medium self.old in
-            Traced D.makes (instruct_calls (rulebook R.fixed C.fixed) x.now v) self.old.device self.new.device }
+            Traced D.makes (instruct_calls (rulebook R.book_kind C.book_kind) x.now v) self.old.device self.new.device }
     {
         self.check(x)?;
         if let Err(fault) = enter(&mut self.device, self.count, x) {

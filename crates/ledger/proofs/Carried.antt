@@ -10,7 +10,7 @@ use Rattle.instruction.specs.declared.Instruction.{Instruction}
 use Rattle.instruction.specs.Kinds.{kind_at}
 use Rattle.book.specs.declared.Book as book
 use Rattle.refusals.specs.Answers.{if_ok}
-use Rattle.book.specs.Rulings.{first}
+use Rattle.book.specs.Rulings.{first_refusal}
 use Rattle.rulebook.specs.declared.State.{State}
 use Rattle.rulebook.specs.declared.State.TheVariants.{Entered}
 use Rattle.rulebook.specs.declared.Terms.{Terms}
@@ -68,7 +68,7 @@ module _ (rows : List Trade) (x : Instruction) (whole : length rows ≡ 128) whe
             ∙ same-terms (terms_at rows) x.trade u ∙ ap (λ b. terms_after b (terms_at rows) x u) (sym i);
       })
 
-  pub turned-rows : (h : Rulebook) (k : Act) (m : Terms) (s : Standing) → first (all_checks h k o m s x) ≡ Ok tt → Turned k x rows (rows_after k x rows)
+  pub turned-rows : (h : Rulebook) (k : Act) (m : Terms) (s : Standing) → first_refusal (all_checks h k o m s x) ≡ Ok tt → Turned k x rows (rows_after k x rows)
   turned-rows h (Some Issue) m s p = record { states = λ u. refl; terms = λ u. refl }
   turned-rows h (Some PayIn) m s p = record { states = λ u. refl; terms = λ u. refl }
   turned-rows h None m s p = record { states = λ u. refl; terms = λ u. refl }
@@ -96,12 +96,12 @@ given-refused h s x f e z = given h s s x z (sym (unmoved s (effect s x) x f (an
 
 -- and where they accept it: what carrying out leaves is what the rules say
 pub given-carried : {R C : Type 0} (r : book.Ghosts R) (c : book.Ghosts C) (p q : Parts R C) (x : Instruction) (k : Act)
-    → kind_at x.kind ≡ k → verdict (rulebook r.fixed c.fixed) (standing_in r c p) x ≡ Ok tt → Reached (rulebook r.fixed c.fixed) (standing_in r c p)
-    → r.holdings q.register ≡ book_after r.fixed securities k x (trade_at p.trades.rows x.trade) (r.holdings p.register)
-    → c.holdings q.cash ≡ book_after c.fixed cash k x (trade_at p.trades.rows x.trade) (c.holdings p.cash)
-    → q.trades.rows ≡ rows_after k x p.trades.rows → Given (rulebook r.fixed c.fixed) (standing_in r c p) (standing_in r c q) x
+    → kind_at x.kind ≡ k → verdict (rulebook r.book_kind c.book_kind) (standing_in r c p) x ≡ Ok tt → Reached (rulebook r.book_kind c.book_kind) (standing_in r c p)
+    → r.holdings q.register ≡ book_after r.book_kind securities k x (trade_at p.trades.rows x.trade) (r.holdings p.register)
+    → c.holdings q.cash ≡ book_after c.book_kind cash k x (trade_at p.trades.rows x.trade) (c.holdings p.cash)
+    → q.trades.rows ≡ rows_after k x p.trades.rows → Given (rulebook r.book_kind c.book_kind) (standing_in r c p) (standing_in r c q) x
 given-carried r c p q x k is v (xs, run) er ec et =
-    let h = rulebook r.fixed c.fixed in
+    let h = rulebook r.book_kind c.book_kind in
     let s = standing_in r c p in
     let rows = p.trades.rows in
     let trade = trade_at rows x.trade in

@@ -9,7 +9,7 @@ use Rattle.book.specs.declared.Book as book
 use Rattle.book.specs.declared.TheConstants.{ACCOUNTS}
 use Rattle.book.specs.declared.Holding.{Holding}
 use Rattle.book.specs.Holdings.{Holdings, BookKind}
-use Rattle.book.specs.Rulings.{no_holding, asked, holding_at, outcome}
+use Rattle.book.specs.Rulings.{no_holding, amount_answer, holding_of, outcome}
 use Rattle.rulebook.specs.declared.Trade.{Trade}
 use Rattle.ledger.specs.declared.parts.Parts.{Parts}
 use Rattle.rulebook.specs.Terms.{Side, securities, cash}
@@ -45,7 +45,7 @@ holdings_in t = record {
 
 unfoldable pub table_of : BookKind → Holdings → Table
 table_of k b =
-    map (λ a. map (holding_at b a) (range_with_len 0 k.items)) (range_with_len 0 ACCOUNTS)
+    map (λ a. map (holding_of b a) (range_with_len 0 k.items)) (range_with_len 0 ACCOUNTS)
 
 -- a ledger, as a contract sees it
 pub record Tables : Type 0 where
@@ -55,8 +55,8 @@ pub record Tables : Type 0 where
 
 abbrev pub tables_in : {R C : Type 0} → book.Ghosts R → book.Ghosts C → Parts R C → Tables
 tables_in r c p = record {
-  register = table_of r.fixed (r.holdings p.register);
-  cash = table_of c.fixed (c.holdings p.cash);
+  register = table_of r.book_kind (r.holdings p.register);
+  cash = table_of c.book_kind (c.holdings p.cash);
   trades = p.trades.rows;
 }
 
@@ -79,4 +79,4 @@ IsJudged k verdict (Err fault) = verdict ≡ Err fault
 
 -- the question of what an account has of an item, or of a currency
 abbrev pub holding_question : Rulebook → Standing → Side → ℕ → ℕ → Result Holding Refusal
-holding_question h s d account item = asked (h.kind d) (holding_at (s.book d)) account item
+holding_question h s d account item = amount_answer (h.kind d) (holding_of (s.book d)) account item

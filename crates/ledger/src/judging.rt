@@ -2,7 +2,7 @@
 ghost use Rattle.std.specs.Prelude.{◌≡◌, if◌then◌else◌, Some, Ok, Err, nat_lt};
 ghost use Rattle.refusals.specs.Numbers.{numbered};
 ghost use Rattle.instruction.specs.Kinds.{kind_at};
-ghost use Rattle.book.specs.Rulings.{first};
+ghost use Rattle.book.specs.Rulings.{first_refusal};
 ghost use Rattle.rulebook.specs.Rules.{stray, enter_checks, answer_as, verdict};
 ghost use Rattle.ledger.specs.View.{rulebook, standing_in, IsJudged};
 
@@ -56,7 +56,7 @@ fn enough<B: Book>(book: &B, account: u16, item: u16, wanted: u64) -> Result<(),
 impl<R: Book, C: Book> Parts<R, C> {
     // What an Enter is checked for, once its trade may be entered.
     fn terms_ruling(&self, x: &Instruction) -> Result<(), Refusal>
-        ensures { result ≡ first (enter_checks (rulebook R.fixed C.fixed) x.now) }
+        ensures { result ≡ first_refusal (enter_checks (rulebook R.book_kind C.book_kind) x.now) }
     {
         if x.account == x.counterparty {
             return Err(Refusal::SameParties);
@@ -76,7 +76,7 @@ impl<R: Book, C: Book> Parts<R, C> {
     // The answer to an instruction of a known kind.
     fn ruling(&self, kind: Kind, x: &Instruction) -> Result<(), Refusal>
         ensures { result
-            ≡ answer_as (rulebook R.fixed C.fixed) (Some kind) (standing_in R.Book C.Book self.now) x.now }
+            ≡ answer_as (rulebook R.book_kind C.book_kind) (Some kind) (standing_in R.Book C.Book self.now) x.now }
     {
         if has_stray_field(kind, x) {
             return Err(Refusal::StrayField);
@@ -114,7 +114,7 @@ impl<R: Book, C: Book> Parts<R, C> {
     // The kind of an instruction that the rules accept now, or their fault.
     pub(crate) fn accepted(&self, x: &Instruction) -> Result<Kind, Fault>
         ensures { IsJudged (kind_at x.now.kind)
-            (verdict (rulebook R.fixed C.fixed) (standing_in R.Book C.Book self.now) x.now) result }
+            (verdict (rulebook R.book_kind C.book_kind) (standing_in R.Book C.Book self.now) x.now) result }
     {
         let kind = Kind::try_from(x.kind)?;
         self.ruling(kind, x)

@@ -37,7 +37,7 @@ impl<R: Book, C: Book> Model for Ledger<R, C> {
 
     ghost view = { λ l. tables_in R.Book C.Book l.parts };
 
-    ghost invariant = { λ l. Reached (rulebook R.fixed C.fixed) (standing_in R.Book C.Book l.parts) };
+    ghost invariant = { λ l. Reached (rulebook R.book_kind C.book_kind) (standing_in R.Book C.Book l.parts) };
 }
 
 impl<R: Book, C: Book> Ledger<R, C> {
@@ -76,15 +76,15 @@ impl<R: Book, C: Book> Ledger<R, C> {
 
     // What the rules answer to an instruction now; nothing changes.
     pub fn judge(&self, x: &Instruction) -> Result<(), Fault>
-        ensures { result ≡ verdict (rulebook R.fixed C.fixed) (standing_of self.now) x.now }
+        ensures { result ≡ verdict (rulebook R.book_kind C.book_kind) (standing_of self.now) x.now }
     {
         self.parts.accepted(x).map(|_| ())
     }
 
     // Judges an instruction, and carries it out where the rules accept it.
     pub fn instruct(&mut self, x: &Instruction) -> Result<(), Fault>
-        ensures answer { result ≡ verdict (rulebook R.fixed C.fixed) (standing_of self.old) x.now }
-        ensures after { Given (rulebook R.fixed C.fixed) (standing_of self.old) (standing_of self.new) x.now }
+        ensures answer { result ≡ verdict (rulebook R.book_kind C.book_kind) (standing_of self.old) x.now }
+        ensures after { Given (rulebook R.book_kind C.book_kind) (standing_of self.old) (standing_of self.new) x.now }
         ensures kept { KeptIfRefused result (standing_of self.old) (standing_of self.new) }
         ensures table { StateTable }
         ensures law { LawOfTheLedger }
@@ -106,7 +106,7 @@ impl<R: Book, C: Book> Ledger<R, C> {
     // What an account has of an item of the register. The two books are of two types, so each question goes to one of them.
     pub fn securities(&self, account: u16, item: u16) -> Result<Holding, Refusal>
         ensures { result
-            ≡ holding_question (rulebook R.fixed C.fixed) (standing_of self.now) in_securities account item }
+            ≡ holding_question (rulebook R.book_kind C.book_kind) (standing_of self.now) in_securities account item }
     {
         self.parts.register.holding(account, item)
     }
@@ -114,7 +114,7 @@ impl<R: Book, C: Book> Ledger<R, C> {
     // What an account has of a currency.
     pub fn money(&self, account: u16, currency: u16) -> Result<Holding, Refusal>
         ensures { result
-            ≡ holding_question (rulebook R.fixed C.fixed) (standing_of self.now) in_cash account currency }
+            ≡ holding_question (rulebook R.book_kind C.book_kind) (standing_of self.now) in_cash account currency }
     {
         self.parts.cash.holding(account, currency)
     }

@@ -5,7 +5,7 @@ use Rattle.instruction.specs.declared.Kind.{Kind}
 use Rattle.instruction.specs.declared.Kind.TheVariants.{Enter, Earmark, Fund, Settle, Free}
 use Rattle.instruction.specs.declared.Instruction.{Instruction}
 use Rattle.instruction.specs.Kinds.{code_of, kind_at}
-use Rattle.book.specs.Rulings.{first}
+use Rattle.book.specs.Rulings.{first_refusal}
 use Rattle.rulebook.specs.declared.State.{State}
 use Rattle.rulebook.specs.declared.State.TheVariants.{Entered, Earmarked, Funded, Settled, Freed}
 use Rattle.rulebook.specs.declared.Terms.{Terms}
@@ -167,7 +167,7 @@ pub moves : (h : Rulebook) (s : Standing) (x : Instruction) → answer h s x ≡
 moves h s x ok l m =
     let o = s.state x.trade in
     let tm = s.terms x.trade in
-    by-byte (λ k n. first (all_checks h k o tm s x) ≡ Ok tt → 3 ≤ n → n ≤ 7 → Steps o n (turned (after k) s.state x.trade x.trade))
+    by-byte (λ k n. first_refusal (all_checks h k o tm s x) ≡ Ok tt → 3 ≤ n → n ≤ 7 → Steps o n (turned (after k) s.state x.trade x.trade))
     (λ p l m. absurd (omega arith)) (λ p l m. absurd (omega arith))
     (λ p l m. steps Enter 3 refl o Entered s.state x.trade refl (right h (Some Enter) o tm s x tt p).from)
     (λ p l m. steps Earmark 4 refl o Earmarked s.state x.trade refl (right h (Some Earmark) o tm s x tt p).from)

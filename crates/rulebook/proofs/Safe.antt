@@ -4,8 +4,8 @@ use Rattle.std.proofs.lemmas.Bool.{eqb-true, eqb-false, eq-eqb, cases_Bool, leb-
 use Rattle.instruction.specs.declared.Kind.TheVariants.{Issue, PayIn, Enter}
 use Rattle.instruction.specs.declared.Instruction.{Instruction}
 use Rattle.instruction.specs.Kinds.{kind_at}
-use Rattle.book.specs.Sums.{only, here}
-use Rattle.book.specs.Rulings.{first}
+use Rattle.book.specs.Sums.{amount_if, is_place}
+use Rattle.book.specs.Rulings.{first_refusal}
 use Rattle.rulebook.specs.declared.State.{State}
 use Rattle.rulebook.specs.declared.State.TheVariants.{Unentered, Entered}
 use Rattle.rulebook.specs.declared.Terms.{Terms}
@@ -42,7 +42,7 @@ module _ (P : Terms → Type 0) (st : ℕ → State) (tm : ℕ → Terms) (h : (
       (λ (y : eqb t u ≡ false). rw y (h u)) (cases_Bool (eqb t u))
 
 module _ (h : Rulebook) where
-  proper-step : (s : Standing) (x : Instruction) → ((t : ℕ) → (s.state t ≡ Unentered) ⊎ Proper h (s.terms t)) → (k : Act) (o : State) → s.state x.trade ≡ o → first (all_checks h k o (s.terms x.trade) s x) ≡ Ok tt → (t : ℕ) → (turned (after k) s.state x.trade t ≡ Unentered) ⊎ Proper h (terms_after (is_enter k) s.terms x t)
+  proper-step : (s : Standing) (x : Instruction) → ((t : ℕ) → (s.state t ≡ Unentered) ⊎ Proper h (s.terms t)) → (k : Act) (o : State) → s.state x.trade ≡ o → first_refusal (all_checks h k o (s.terms x.trade) s x) ≡ Ok tt → (t : ℕ) → (turned (after k) s.state x.trade t ≡ Unentered) ⊎ Proper h (terms_after (is_enter k) s.terms x t)
   proper-step s x q (Some Issue) o e p = q
   proper-step s x q (Some PayIn) o e p = q
   proper-step s x q None o e p = q
@@ -77,7 +77,7 @@ module _ (h : Rulebook) where
       let m = s.terms t in
       let f = fair h r d (giver d m) (asset d m) in
       let q = covers d (s.book d) s.state s.terms (credits (giver d m) (asset d m) d xs) (giver d m) (asset d m) t o Unentered l e f ho (holds-not d) in
-      let w : only (here (giver d m) (asset d m) (giver d m) (asset d m)) (volume d m) ≡ volume d m = rw (eq-eqb (giver d m) (giver d m) refl, eq-eqb (asset d m) (asset d m) refl) in
+      let w : amount_if (is_place (giver d m) (asset d m) (giver d m) (asset d m)) (volume d m) ≡ volume d m = rw (eq-eqb (giver d m) (giver d m) refl, eq-eqb (asset d m) (asset d m) refl) in
       omega (arith, q, w)
 
 pub safe : (h : Rulebook) (xs : List Instruction) (s : Standing) → Runs h xs s → Safe h s

@@ -8,9 +8,9 @@ use Rattle.instruction.specs.declared.Kind.TheVariants.{Issue, PayIn, Enter, Ear
 use Rattle.instruction.specs.declared.Instruction.{Instruction}
 use Rattle.instruction.specs.Kinds.{kind_at}
 use Rattle.book.specs.declared.TheConstants.{ACCOUNTS}
-use Rattle.book.specs.Holdings.{Holdings, BookKind, nothing, Deed, keep, crediting, blocking, releasing, moving, apply}
+use Rattle.book.specs.Holdings.{Holdings, BookKind, nothing, Deed, no_change, crediting, blocking, releasing, moving, apply}
 use Rattle.refusals.specs.Answers.{if_ok}
-use Rattle.book.specs.Rulings.{Check, ◌refuses◌, first, checks}
+use Rattle.book.specs.Rulings.{Check, ◌refuses◌, first_refusal, checks}
 use Rattle.rulebook.specs.declared.TheConstants.{TRADES}
 use Rattle.rulebook.specs.declared.State.{State}
 use Rattle.rulebook.specs.declared.State.TheVariants.{Unentered, Earmarked, Funded, Settled}
@@ -106,7 +106,7 @@ module _ (h : Rulebook) where
 
   -- the answer to an instruction of this kind, and of the kind that its kind byte says
   abbrev pub answer_as : Act → Standing → Instruction → Result (Unit {0}) Refusal
-  answer_as k s x = first (all_checks k (s.state x.trade) (s.terms x.trade) s x)
+  answer_as k s x = first_refusal (all_checks k (s.state x.trade) (s.terms x.trade) s x)
 
   abbrev pub answer : Standing → Instruction → Result (Unit {0}) Refusal
   answer s x = answer_as (kind_at x.kind) s x
@@ -177,17 +177,17 @@ turned_trade k x trade =
 -- blocked
 abbrev pub deed : Act → Side → State → Terms → Instruction → Deed
 deed (Some Issue) securities o m x = crediting x.account x.item x.quantity
-deed (Some Issue) cash o m x = keep
-deed (Some PayIn) securities o m x = keep
+deed (Some Issue) cash o m x = no_change
+deed (Some PayIn) securities o m x = no_change
 deed (Some PayIn) cash o m x = crediting x.account x.currency x.amount
-deed (Some Enter) d o m x = keep
+deed (Some Enter) d o m x = no_change
 deed (Some Earmark) securities o m x = blocking m.seller m.item m.quantity
-deed (Some Earmark) cash o m x = keep
-deed (Some Fund) securities o m x = keep
+deed (Some Earmark) cash o m x = no_change
+deed (Some Fund) securities o m x = no_change
 deed (Some Fund) cash o m x = blocking m.buyer m.currency m.amount
 deed (Some Settle) d o m x = moving (giver d m) (taker d m) (asset d m) (volume d m)
-deed (Some Free) d o m x = cond (holds d o) (releasing (giver d m) (asset d m) (volume d m)) keep
-deed None d o m x = keep
+deed (Some Free) d o m x = cond (holds d o) (releasing (giver d m) (asset d m) (volume d m)) no_change
+deed None d o m x = no_change
 
 -- what an accepted instruction changes
 abbrev pub effect : Standing → Instruction → Standing

@@ -9,7 +9,7 @@ use Rattle.depository.proofs.serving.format_for.Goals as goal
 
 pub returns : goal.returns
 returns g c =
-    let h = rulebook g.R.Book.fixed g.C.Book.fixed in
+    let h = rulebook g.R.Book.book_kind g.C.Book.book_kind in
     let means = g.D.Device.medium in
     let pairs = c.args.pairs in
     let before = c.args.device.now in

@@ -18,7 +18,7 @@ returns-in_err-map_err-clause-books g c =
 -- an instruction that the rules accept takes effect
 pub returns-clause-books : goal.returns-clause-books
 returns-clause-books g c =
-    let h = rulebook g.R.Book.fixed g.C.Book.fixed in
+    let h = rulebook g.R.Book.book_kind g.C.Book.book_kind in
     let s = standing_of c.args.ledger.now in
     let x = c.in_ok-x.x in
     let is : c.instruct.result ≡ Ok tt = search rules in

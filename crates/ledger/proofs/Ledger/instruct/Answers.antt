@@ -16,10 +16,10 @@ invariant_of-self g c =
 
 pub returns : goal.returns
 returns g c =
-    let h = rulebook g.R.Book.fixed g.C.Book.fixed in
+    let h = rulebook g.R.Book.book_kind g.C.Book.book_kind in
     let x = c.args.x.now in
-    let old = stands g.R.Book g.C.Book c.self.inside.parts g.met.R.Book.outside g.met.C.Book.outside c.self.view_is in
-    let new = stands g.R.Book g.C.Book c.carry_out.new.self g.met.R.Book.outside g.met.C.Book.outside refl in
+    let old = stands g.R.Book g.C.Book c.self.inside.parts g.met.R.Book.nothing_outside g.met.C.Book.nothing_outside c.self.view_is in
+    let new = stands g.R.Book g.C.Book c.carry_out.new.self g.met.R.Book.nothing_outside g.met.C.Book.nothing_outside refl in
     record {
       answer = sym (ap (λ s. verdict h s x) old ∙ c.in_ok-kind.ensures.1);
       after = subst₂ (λ s t. Given h s t x) (sym old) (sym new) (given-carried g.R.Book g.C.Book c.self.inside.parts c.carry_out.new.self x _ c.in_ok-kind.ensures.0 c.in_ok-kind.ensures.1 c.self.invariant c.carry_out.ensures.register c.carry_out.ensures.cash c.carry_out.ensures.trades);
@@ -30,9 +30,9 @@ returns g c =
 
 pub returns-in_err-kind : goal.returns-in_err-kind
 returns-in_err-kind g c =
-    let h = rulebook g.R.Book.fixed g.C.Book.fixed in
+    let h = rulebook g.R.Book.book_kind g.C.Book.book_kind in
     let x = c.args.x.now in
-    let old = stands g.R.Book g.C.Book c.self.inside.parts g.met.R.Book.outside g.met.C.Book.outside c.self.view_is in
+    let old = stands g.R.Book g.C.Book c.self.inside.parts g.met.R.Book.nothing_outside g.met.C.Book.nothing_outside c.self.view_is in
     let p = err_from_is_err_and c.from_residual.result c.from_residual.ensures.1 in
     rw (p.1, p.2) (record {
       answer = sym (ap (λ s. verdict h s x) old ∙ c.in_err-kind.ensures);

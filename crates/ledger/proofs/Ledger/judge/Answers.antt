@@ -6,8 +6,8 @@ use Rattle.ledger.proofs.Ledger.judge.Goals as goal
 
 pub returns : goal.returns
 returns g c =
-    let h = rulebook g.R.Book.fixed g.C.Book.fixed in
+    let h = rulebook g.R.Book.book_kind g.C.Book.book_kind in
     let x = c.args.x.now in
-    let e = stands g.R.Book g.C.Book c.self.inside.parts g.met.R.Book.outside g.met.C.Book.outside c.self.view_is in
+    let e = stands g.R.Book g.C.Book c.self.inside.parts g.met.R.Book.nothing_outside g.met.C.Book.nothing_outside c.self.view_is in
     let v : c.map.result ≡ verdict h (standing_in g.R.Book g.C.Book c.self.inside.parts) x = search rules in
     v ∙ ap (λ s. verdict h s x) (sym e)

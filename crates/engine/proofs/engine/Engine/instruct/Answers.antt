@@ -14,7 +14,7 @@ use Rattle.engine.proofs.engine.Engine.instruct.Goals as goal
 
 pub returns-clause-done : goal.returns-clause-done
 returns-clause-done g c =
-    let h = rulebook g.R.Book.fixed g.C.Book.fixed in
+    let h = rulebook g.R.Book.book_kind g.C.Book.book_kind in
     let v = view g.D.Device.medium c.args.self.now in
     let x = c.args.x.now in
     carried-out {h = h} {x = x} {v = v} (search rules) (search rules) (λ p. record {
@@ -29,7 +29,7 @@ returns-clause-done g c =
 
 pub returns-in-Err-clause-trace : goal.returns-in-Err-clause-trace
 returns-in-Err-clause-trace g c =
-    let h = rulebook g.R.Book.fixed g.C.Book.fixed in
+    let h = rulebook g.R.Book.book_kind g.C.Book.book_kind in
     let x = c.args.x.now in
     let v = view g.D.Device.medium c.args.self.now in
     let passed : checked h x v ≡ Ok tt = search rules in
@@ -37,14 +37,14 @@ returns-in-Err-clause-trace g c =
 
 pub returns-in_err-check-clause-cut : goal.returns-in_err-check-clause-cut
 returns-in_err-check-clause-cut g c =
-    let h = rulebook g.R.Book.fixed g.C.Book.fixed in
+    let h = rulebook g.R.Book.book_kind g.C.Book.book_kind in
     let v = view g.D.Device.medium c.args.self.now in
     let done : Instructed h c.args.x.now v v c.from_residual.result = search rules in
     cut-short h c.args.x.now v v done
 
 pub returns-in-Err-clause-cut : goal.returns-in-Err-clause-cut
 returns-in-Err-clause-cut g c =
-    let h = rulebook g.R.Book.fixed g.C.Book.fixed in
+    let h = rulebook g.R.Book.book_kind g.C.Book.book_kind in
     let x = c.args.x.now in
     let v = view g.D.Device.medium c.args.self.now in
     let passed : checked h x v ≡ Ok tt = search rules in
