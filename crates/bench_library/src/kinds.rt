@@ -15,7 +15,7 @@ pub(crate) trait DeviceKind: PoweredDevice {
 
     fn of_image(image: Vec<u8>, calls: u32) -> Self
         ensures image { image_of result ≡ image.items }
-        ensures left { (Self.Device.medium result).left ≡ calls };
+        ensures calls_left { (Self.Device.medium result).calls_left ≡ calls };
 
     fn image(self) -> Vec<u8>
         ensures { result.items ≡ image_of self };

@@ -1,7 +1,7 @@
 // What is to be timed, over and over, so that the time of one is the difference of two runs.
 use crate::rows::Fields;
 use book::Book;
-use device::{BLOCK, Device, PoweredDevice};
+use device::{BLOCK_SIZE, Device, PoweredDevice};
 use engine::Engine;
 use journal::format;
 
@@ -70,7 +70,7 @@ fn reopen<D: Device, R: Book, C: Book>(parts: (D, R, C), rounds: u32) -> ((D, R,
     (parts, found)
 }
 
-fn sum_of(block: &[u8; BLOCK]) -> u64 {
+fn sum_of(block: &[u8; BLOCK_SIZE]) -> u64 {
     let mut sum = 0u64;
     for byte in block {
         sum = sum.wrapping_add((*byte).into());
@@ -80,7 +80,7 @@ fn sum_of(block: &[u8; BLOCK]) -> u64 {
 
 // Reads the blocks in order, and sums their bytes: of a block that nobody looks at the copy would be left out.
 fn read<D: Device>(device: &mut D, trial: &Trial) -> u64 {
-    let mut block = [0; BLOCK];
+    let mut block = [0; BLOCK_SIZE];
     let mut sum = 0u64;
     for _ in 0..trial.rounds {
         for number in 0..trial.blocks {

@@ -10,11 +10,11 @@ use Rattle.check_drill.specs.declared.exercise.Ends.{Ends}
 
 -- the answer to the first write and the sync: that of the first call that refuses
 abbrev pub keep_answer : Medium → ℕ → ℕ → Answer
-keep_answer m kept n = and_then (write_answer m kept n) (spend_answer (m.left - 1))
+keep_answer m kept n = and_then (write_answer m kept n) (spend_answer (m.calls_left - 1))
 
 -- the answer to the second write, where those two were accepted
 abbrev pub loose_answer : Medium → ℕ → ℕ → Answer
-loose_answer m loose n = admitted m.size (m.left - 2) loose n
+loose_answer m loose n = admitted m.size (m.calls_left - 2) loose n
 
 -- the answer to all three
 abbrev pub arm_answer : Medium → ℕ → ℕ → ℕ → Answer
@@ -24,9 +24,9 @@ arm_answer m kept loose n = and_then (keep_answer m kept n) (loose_answer m loos
 abbrev pub arm_left : Medium → ℕ → ℕ → ℕ → ℕ
 arm_left m kept loose n =
     if_ok (write_answer m kept n)
-    (if_ok (spend_answer (m.left - 1))
-    (if_ok (loose_answer m loose n) (m.left - 3) (m.left - 2)) (m.left - 1))
-    m.left
+    (if_ok (spend_answer (m.calls_left - 1))
+    (if_ok (loose_answer m loose n) (m.calls_left - 3) (m.calls_left - 2)) (m.calls_left - 1))
+    m.calls_left
 
 -- the calls that are made: those three up to the first that refuses, and the rest where none does
 abbrev pub armed_calls : Medium → ℕ → ℕ → List ℕ → List DeviceCall → List DeviceCall
@@ -34,7 +34,7 @@ armed_calls m kept loose bytes rest =
     writing kept bytes
     ∷ if_ok (write_answer m kept (length bytes))
     (syncing
-    ∷ if_ok (spend_answer (m.left - 1))
+    ∷ if_ok (spend_answer (m.calls_left - 1))
     (writing loose bytes ∷ if_ok (loose_answer m loose (length bytes)) rest []) [])
     []
 
@@ -65,7 +65,7 @@ pub record SecondRefused (m m' : Medium) (kept loose : ℕ) (bytes : List ℕ) (
 pub record LeftBehind (m m' : Medium) (kept loose : ℕ) (bytes : List ℕ) : Type 0 where
   pub first : (e : Fault) → write_answer m kept (length bytes) ≡ Err e → FirstRefused m m' kept e
   pub sync :
-      (e : Fault) → write_answer m kept (length bytes) ≡ Ok tt → spend_answer (m.left - 1) ≡ Err e
+      (e : Fault) → write_answer m kept (length bytes) ≡ Ok tt → spend_answer (m.calls_left - 1) ≡ Err e
       → SyncRefused m m' kept bytes
   pub second :
       (e : Fault) → keep_answer m kept (length bytes) ≡ Ok tt
@@ -81,7 +81,7 @@ pub record BothWritten (m m' : Medium) (kept loose : ℕ) (bytes : List ℕ) : T
 -- The two writes and the sync between them were asked for.
 pub record Armed (m m' : Medium) (kept loose : ℕ) (bytes : List ℕ) (r : Answer) : Type 0 where
   pub answer : r ≡ arm_answer m kept loose (length bytes)
-  pub left : m'.left ≡ arm_left m kept loose (length bytes)
+  pub calls_left : m'.calls_left ≡ arm_left m kept loose (length bytes)
   pub size : m'.size ≡ m.size
   pub refused : LeftBehind m m' kept loose bytes
   pub both : arm_answer m kept loose (length bytes) ≡ Ok tt → BothWritten m m' kept loose bytes
@@ -91,7 +91,7 @@ pub record Armed (m m' : Medium) (kept loose : ℕ) (bytes : List ℕ) (r : Answ
 pub record ReadBack (m m' : Medium) (b given : ℕ) (old new : List ℕ) (r : Answer) : Type 0 where
   pub answer : r ≡ and_then (admitted m.size given b (length old)) (found b (m'.holds b))
   pub buffer : new ≡ if_ok r (filled (m'.holds b) old) old
-  pub left : m'.left ≡ if_ok (admitted m.size given b (length old)) (given - 1) given
+  pub calls_left : m'.calls_left ≡ if_ok (admitted m.size given b (length old)) (given - 1) given
   pub size : m'.size ≡ m.size
   pub holds : (k : ℕ) → m.loose k ≡ false → m'.holds k ≡ m.holds k
   pub firm : (k : ℕ) → m'.loose k ≡ false
@@ -123,7 +123,7 @@ pub record Drilled (m m' : Medium) (kept loose : ℕ) (bytes : List ℕ) (given 
   pub answer : r ≡ drill_answer m kept loose (length bytes) given (length old) (m'.holds kept)
   -- a refusal leaves the buffer
   pub buffer : new ≡ if_ok r (filled (m'.holds kept) old) old
-  pub left : m'.left ≡ drill_left m kept loose (length bytes) given (length old)
+  pub calls_left : m'.calls_left ≡ drill_left m kept loose (length bytes) given (length old)
   pub size : m'.size ≡ m.size
   pub refused : LeftBehind m m' kept loose bytes
   pub outlasted : arm_answer m kept loose (length bytes) ≡ Ok tt → Outlasted m m' kept loose bytes

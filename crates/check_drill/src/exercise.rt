@@ -1,9 +1,9 @@
 // What any powered device must stand, shown from the interface alone.
 ghost use Rattle.std.specs.Prelude.{◌≡◌, ◌-◌, min, [], ◌∷◌, length};
-ghost use Rattle.device.specs.declared.TheConstants.{BLOCK};
+ghost use Rattle.device.specs.declared.TheConstants.{BLOCK_SIZE};
 ghost use Rattle.refusals.specs.Answers.{if_ok};
 ghost use Rattle.device.specs.Calls.{SameBlocks, write_answer};
-ghost use Rattle.device.specs.Traces.{Traced, reading, restarting};
+ghost use Rattle.device.specs.Traces.{IsTrace, reading, restarting};
 ghost use Rattle.check_drill.specs.Drills.{Armed, Drilled, ReadBack, armed_calls, looked};
 
 use device::{Device, PoweredDevice};
@@ -37,7 +37,7 @@ fn arm<D: Device>(device: &mut D, writes: &Writes<'_>) -> Result<(), Fault>
         Armed (D.Device.medium device.old) (D.Device.medium device.new)
         w.kept w.loose w.bytes.now result }
     ensures calls { let w = writes.now in
-        Traced D.Device.makes
+        IsTrace D.Device.makes
         (armed_calls (D.Device.medium device.old) w.kept w.loose w.bytes.now [])
         device.old device.new }
 {
@@ -54,10 +54,10 @@ fn cut_and_read<P: PoweredDevice>(
     back: &mut [u8],
 ) -> Result<(), Fault>
     ensures read { ReadBack (P.Device.medium device.old) (P.Device.medium device.new)
-        writes.now.kept (min cut.now.calls P.PoweredDevice.most) back.old back.new result }
+        writes.now.kept (min cut.now.calls P.PoweredDevice.most_calls) back.old back.new result }
     ensures calls { let c = cut.now in
         let block = writes.now.kept in
-        Traced P.Device.makes
+        IsTrace P.Device.makes
         (restarting c.calls c.remains.now ∷ reading block (length back.old) ∷ [])
         device.old device.new }
 {
@@ -74,13 +74,13 @@ pub fn drill<P: PoweredDevice>(
 ) -> Result<(), Fault>
     ensures drilled { let w = writes.now in
         Drilled (P.Device.medium device.old) (P.Device.medium device.new)
-        w.kept w.loose w.bytes.now (min cut.now.calls P.PoweredDevice.most) back.old back.new result }
+        w.kept w.loose w.bytes.now (min cut.now.calls P.PoweredDevice.most_calls) back.old back.new result }
 
     // the calls that were made, of which the device's kind may say more than every device promises
     ensures calls { let w = writes.now in
         let c = cut.now in
         let rest = restarting c.calls c.remains.now ∷ reading w.kept (length back.old) ∷ [] in
-        Traced P.Device.makes
+        IsTrace P.Device.makes
         (armed_calls (P.Device.medium device.old) w.kept w.loose w.bytes.now rest)
         device.old device.new }
 {
@@ -91,12 +91,12 @@ pub fn drill<P: PoweredDevice>(
 // Reads a block, and tells its ends.
 pub fn look<D: Device>(device: &mut D, block: u32) -> Result<Ends, Fault>
     ensures ends { result ≡ looked (D.Device.medium device.old) block }
-    ensures left { (D.Device.medium device.new).left
+    ensures calls_left { (D.Device.medium device.new).calls_left
         ≡ if_ok (write_answer (D.Device.medium device.old) block 256)
-        ((D.Device.medium device.old).left - 1)
-        (D.Device.medium device.old).left }
+        ((D.Device.medium device.old).calls_left - 1)
+        (D.Device.medium device.old).calls_left }
     ensures same { SameBlocks (D.Device.medium device.old) (D.Device.medium device.new) }
-    ensures call { D.Device.makes device.old (reading block BLOCK) device.new }
+    ensures call { D.Device.makes device.old (reading block BLOCK_SIZE) device.new }
 {
     let mut buffer = [0u8; 256];
     device.read(block, &mut buffer)?;

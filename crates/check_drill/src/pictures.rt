@@ -99,7 +99,7 @@ pub(crate) trait Kind: PoweredDevice + Drop {
     // A device over the image, with no calls.
     fn of_image(image: Vec<u8>) -> Self
         ensures image { image_of result ≡ image.items }
-        ensures left { (Self.Device.medium result).left ≡ 0 };
+        ensures calls_left { (Self.Device.medium result).calls_left ≡ 0 };
 
     fn back_to_image(self) -> Vec<u8>
         ensures { result.items ≡ image_of self };

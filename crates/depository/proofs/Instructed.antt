@@ -39,7 +39,7 @@ module _ (h : Rulebook) (pairs : ℕ) (few : pairs ≤ 32767) (t : Tally) (x : I
   none-next : (s : Standing) → t.hand ≡ None → (y : Instruction) → t.hand ≡ Some y → answer h s y ≡ Ok tt
   none-next s n y e = absurd cc
 
-  added : LetPass h x v → t.hand ≡ None → InEngine h pairs t v → 3 < v.medium.left → Accepted x v v' → InEngine h pairs (record { list = t.list ++ (x ∷ []); hand = t.hand }) v'
+  added : LetPass h x v → t.hand ≡ None → InEngine h pairs t v → 3 < v.medium.calls_left → Accepted x v v' → InEngine h pairs (record { list = t.list ++ (x ∷ []); hand = t.hand }) v'
   added p n k l a =
       let lt : length t.list < pairs = omega (arith, p.room, k.count, k.room) in
       let run = more x k.runs p.accepted in
@@ -55,7 +55,7 @@ module _ (h : Rulebook) (pairs : ℕ) (few : pairs ≤ 32767) (t : Tally) (x : I
         count = a.count ∙ ap (λ n. n + 1) k.count ∙ sym (length_push t.list x);
       }
 
-  in-hand : LetPass h x v → t.hand ≡ None → InEngine h pairs t v → v.medium.left < 4 → CutOff x v v' → InEngine h pairs (record { list = t.list; hand = Some x }) v'
+  in-hand : LetPass h x v → t.hand ≡ None → InEngine h pairs t v → v.medium.calls_left < 4 → CutOff x v v' → InEngine h pairs (record { list = t.list; hand = Some x }) v'
   in-hand p n k l a =
       let lt : length t.list < pairs = omega (arith, p.room, k.count, k.room) in
       record {

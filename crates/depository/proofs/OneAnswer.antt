@@ -6,7 +6,7 @@ use Rattle.rulebook.specs.Terms.{Side}
 use Rattle.rulebook.specs.Rules.{Rulebook}
 use Rattle.device.specs.Medium.{Medium}
 use Rattle.device.specs.Calls.{Answer}
-use Rattle.device.specs.Traces.{DeviceCall, restarting, Traced}
+use Rattle.device.specs.Traces.{DeviceCall, restarting, IsTrace}
 use Rattle.device.proofs.Traces.{traced-fixed}
 use Rattle.journal.specs.Blocks.{header_bytes}
 use Rattle.journal.specs.Format.{format_calls}
@@ -109,8 +109,8 @@ module _ {D S : Type 0} (makes : D → DeviceCall → D → Type 0) (means : D �
   pub one-answer : {pairs : ℕ} {d d' : D} {books : Side → Holdings} {cs : List Order} {rs rs' : List Reply} {b b' : Moment} {e e' : D} → seen d ≡ seen d' → Run makes means h most pairs d books cs rs b e
       → Run makes means h most pairs d' books cs rs' b' e' → rs ≡ rs'
   one-answer {pairs} {d} {d'} {books} {cs} {rs} {rs'} {b} {b'} {e} {e'} s one two =
-      let calls : Medium → List DeviceCall = λ m. format_calls (header_bytes (header_for h pairs)) pairs m.size m.left in
-      let also = subst (λ m. Traced makes (calls m) d' two.device) (sym (z.meaning d d' s)) two.formatted.trace in
+      let calls : Medium → List DeviceCall = λ m. format_calls (header_bytes (header_for h pairs)) pairs m.size m.calls_left in
+      let also = subst (λ m. IsTrace makes (calls m) d' two.device) (sym (z.meaning d d' s)) two.formatted.trace in
       let q = traced-fixed makes seen z.fixed (calls (means d)) d d' one.device two.device one.formatted.trace also s in
       let start = subst (λ m. Path makes means h most (at (shut m books) None) two.device cs rs' b' e') (sym (z.meaning one.device two.device q)) two.path in
       alike q one.path start

@@ -8,7 +8,7 @@ use Rattle.refusals.specs.Numbers.{number_of}
 use Rattle.instruction.specs.declared.Instruction.{Instruction}
 use Rattle.rulebook.specs.Terms.{securities, cash}
 use Rattle.rulebook.specs.Rules.{Rulebook}
-use Rattle.device.specs.Medium.{Medium, Bounded}
+use Rattle.device.specs.Medium.{Medium, IsBounded}
 use Rattle.device.specs.Power.{Restart}
 use Rattle.journal.proofs.Survives.{restarting}
 use Rattle.engine.specs.declared.engine.Mode.{Mode}
@@ -132,7 +132,7 @@ module _ (h : Rulebook) (pairs : ℕ) (t : Tally) where
     pub kept : KeptBy h pairs (fed_opening t (opening_answer v.mode) (slip_answer v.mode v.found v.last l)) v (owed_after v.mode l) v.mode
     pub judged : opening_answer v.mode ≡ Ok tt → Judged l (answered v.mode v l) v
     pub refused : (f : Fault) → opening_answer v.mode ≡ Err f → number_of f.refusal ≡ 13
-    pub prompt : 1 + 2 * pairs ≤ m.left → opening_answer v.mode ≡ Ok tt
+    pub prompt : 1 + 2 * pairs ≤ m.calls_left → opening_answer v.mode ≡ Ok tt
 
   abbrev KeptAs : Option Contents → View → Mode → Type 0
   KeptAs l v m = KeptBy h pairs (fed_opening t (opening_answer m) (slip_answer m v.found v.last l)) v (owed_after m l) m × Says l v m
@@ -164,7 +164,7 @@ module _ (h : Rulebook) (pairs : ℕ) (t : Tally) where
   says-refused l v (Down x) s f e = absurd s
   says-refused l v (Refused g) s f e = let q : g ≡ f = cc in subst (λ (u : Fault). number_of u.refusal ≡ 13) q s
 
-  pub reopened : (m : Medium) (l : Option Contents) → Paired pairs → (h.kind securities).code < 256 → (h.kind cash).code < 256 → Bounded m → OnDevice h pairs t m → Matches l t → Reopened m l (opened h m)
+  pub reopened : (m : Medium) (l : Option Contents) → Paired pairs → (h.kind securities).code < 256 → (h.kind cash).code < 256 → IsBounded m → OnDevice h pairs t m → Matches l t → Reopened m l (opened h m)
   reopened m l p c₁ c₂ b k ml =
       let v = opened h m in
       let o = opens h pairs m t.list t.hand v p.some p.few k.size c₁ c₂ b k.journal k.lawful refl in

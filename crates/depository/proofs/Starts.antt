@@ -7,9 +7,9 @@ use Rattle.book.specs.Holdings.{Holdings}
 use Rattle.rulebook.specs.Terms.{Side, securities, cash}
 use Rattle.rulebook.specs.Rules.{Rulebook, empty, start}
 use Rattle.rulebook.proofs.Meanings.{last-words}
-use Rattle.device.specs.Medium.{Medium, Bounded}
+use Rattle.device.specs.Medium.{Medium, IsBounded}
 use Rattle.device.specs.Calls.{Answer}
-use Rattle.device.specs.Traces.{DeviceCall, writing, syncing, Traced}
+use Rattle.device.specs.Traces.{DeviceCall, writing, syncing, IsTrace}
 use Rattle.journal.specs.Blocks.{zeros, header_bytes}
 use Rattle.journal.proofs.Fresh.{fresh-journal}
 use Rattle.journal.specs.Format.{no_room, format_answer, header_for as format_header, Formatted, mark_writes, format_calls}
@@ -47,7 +47,7 @@ same-header h a b pairs ea eb = λ i. record { register = ea i; cash = eb i; pai
 module _ {D : Type 0} (makes : D → DeviceCall → D → Type 0) (means : D → Medium) (h : Rulebook) (pairs : ℕ) (d e : D) (a b : ℕ) (ea : a ≡ (h.kind securities).code) (eb : b ≡ (h.kind cash).code)
     (r : Answer) (is : r ≡ format_answer pairs (means d))
     (after : no_room pairs (means d).size ≡ false → Formatted (header_bytes (format_header a b pairs)) pairs (means d) (means e))
-    (trace : Traced makes (format_calls (header_bytes (format_header a b pairs)) pairs (means d).size (means d).left) d e) where
+    (trace : IsTrace makes (format_calls (header_bytes (format_header a b pairs)) pairs (means d).size (means d).calls_left) d e) where
   -- the calls of a format that has room
   abbrev made : ℕ → List DeviceCall
   made left = take (left + 1) (writing 0 zeros ∷ syncing ∷ (mark_writes pairs ++ (syncing ∷ writing 0 (header_bytes (format_header a b pairs)) ∷ syncing ∷ [])))
@@ -55,16 +55,16 @@ module _ {D : Type 0} (makes : D → DeviceCall → D → Type 0) (means : D →
   pub after-format : AfterFormat makes means h pairs d r e
   after-format = record {
     format = sym is;
-    refused = λ n. sym (subst (λ b. Traced makes (cond b [] (made (means d).left)) d e) n trace);
+    refused = λ n. sym (subst (λ b. IsTrace makes (cond b [] (made (means d).calls_left)) d e) n trace);
     after = λ n. subst (λ head. Formatted (header_bytes head) pairs (means d) (means e)) (same-header h a b pairs ea eb) (after n);
-    trace = subst (λ head. Traced makes (format_calls (header_bytes head) pairs (means d).size (means d).left) d e) (same-header h a b pairs ea eb) trace;
+    trace = subst (λ head. IsTrace makes (format_calls (header_bytes head) pairs (means d).size (means d).calls_left) d e) (same-header h a b pairs ea eb) trace;
   }
 
 -- of a format that is answered 0, enough calls were left
-format-calls : (pairs : ℕ) (m : Medium) → format_answer pairs m ≡ Ok tt → pairs + 4 < m.left
+format-calls : (pairs : ℕ) (m : Medium) → format_answer pairs m ≡ Ok tt → pairs + 4 < m.calls_left
 format-calls pairs m e = grind (arith, e)
 
-module _ {D : Type 0} (makes : D → DeviceCall → D → Type 0) (means : D → Medium) (h : Rulebook) (most pairs : ℕ) (d : D) (books : Side → Holdings) (c₁ : (h.kind securities).code < 256) (c₂ : (h.kind cash).code < 256) (bounds : (x : D) → Bounded (means x)) where
+module _ {D : Type 0} (makes : D → DeviceCall → D → Type 0) (means : D → Medium) (h : Rulebook) (most pairs : ℕ) (d : D) (books : Side → Holdings) (c₁ : (h.kind securities).code < 256) (c₂ : (h.kind cash).code < 256) (bounds : (x : D) → IsBounded (means x)) where
   module _ (e : D) (f : AfterFormat makes means h pairs d (Ok tt) e) where
     roomy : no_room pairs (means d).size ≡ false
     roomy = has-room pairs (means d) f.format

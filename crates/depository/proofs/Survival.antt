@@ -9,7 +9,7 @@ use Rattle.book.specs.Holdings.{Holdings}
 use Rattle.rulebook.specs.Terms.{Side, securities, cash}
 use Rattle.rulebook.specs.Rules.{Rulebook}
 use Rattle.rulebook.proofs.Whole.{law-of-the-ledger}
-use Rattle.device.specs.Medium.{Medium, Bounded}
+use Rattle.device.specs.Medium.{Medium, IsBounded}
 use Rattle.device.specs.Calls.{Answer}
 use Rattle.device.specs.Traces.{DeviceCall}
 use Rattle.journal.specs.Journal.{Journal, enter_answer}
@@ -104,7 +104,7 @@ module _ (h : Rulebook) (most pairs : ℕ) (p : Paired pairs) (c₁ : (h.kind se
   by-leads t c {r} {r₀} {b} {b₀} e k = subst (λ s. Kept h pairs (feed t c s) b) (sym e.answer) (subst (λ n. Kept h pairs (feed t c r₀) n) (sym e.leads) k)
 
   -- a call keeps the tally that it is fed to
-  kept-next : (t : Tally) (a : Phase) (l : Option Contents) (c : Order) (r : Reply) (b : Moment) → Does h most (at a l) c r b → ((x : Instruction) → c ≡ to_instruct x → Fit x) → Bounded (medium_in a) → Kept h pairs t (at a l)
+  kept-next : (t : Tally) (a : Phase) (l : Option Contents) (c : Order) (r : Reply) (b : Moment) → Does h most (at a l) c r b → ((x : Instruction) → c ≡ to_instruct x → Fit x) → IsBounded (medium_in a) → Kept h pairs t (at a l)
       → Kept h pairs (feed t c r) b
   kept-next t (running v) l (to_instruct x) r b d fit bounded k = by-leads t (to_instruct x) d.leads (instructed h pairs p.few t x (fit x refl) v d.after l d.answered d.engine k)
   kept-next t (running v) l to_close r b d fit bounded k = by-leads t to_close d (closed h pairs t v l v.mode k)
@@ -182,22 +182,22 @@ module _ (h : Rulebook) (most pairs : ℕ) (p : Paired pairs) (c₁ : (h.kind se
   no-misfit : {o : Opened} → OpenedReply o ≡ Misfit → ⊥
   no-misfit e = cc
 
-  enough : (t : Tally) (a : Phase) (l : Option Contents) → Kept h pairs t (at a l) → Bounded (medium_in a) → (m : Medium) (books : Side → Holdings) → a ≡ shut m books → 1 + 2 * pairs ≤ m.left
+  enough : (t : Tally) (a : Phase) (l : Option Contents) → Kept h pairs t (at a l) → IsBounded (medium_in a) → (m : Medium) (books : Side → Holdings) → a ≡ shut m books → 1 + 2 * pairs ≤ m.calls_left
       → (r : Reply) (z : Moment) → Does h most (at a l) to_open r z → OpenedWell r
   enough t (running v) l k bounded m books e low r z d = absurd cc
   enough t (shut n others) l k bounded m books e low r z d =
       let same : n ≡ m = ap medium_in e in
       let o = reopened h pairs t n l p c₁ c₂ bounded k.0 k.1 in
-      well n l r (o.prompt (subst (λ (u : Medium). 1 + 2 * pairs ≤ u.left) (sym same) low)) d.answer
+      well n l r (o.prompt (subst (λ (u : Medium). 1 + 2 * pairs ≤ u.calls_left) (sym same) low)) d.answer
 
-  refused : (t : Tally) (a : Phase) (l : Option Contents) → Kept h pairs t (at a l) → Bounded (medium_in a) → (r : Reply) (z : Moment) → Does h most (at a l) to_open r z
+  refused : (t : Tally) (a : Phase) (l : Option Contents) → Kept h pairs t (at a l) → IsBounded (medium_in a) → (r : Reply) (z : Moment) → Does h most (at a l) to_open r z
       → (o : Opened) (f : Fault) → r ≡ OpenedReply o → o.answer ≡ Err f → number_of f.refusal ≡ 13
   refused t (running v) l k bounded r z d o f is e = absurd (no-misfit (sym is ∙ d.answer))
   refused t (shut m books) l k bounded r z d o f is e =
       let same = same-reply (sym d.answer ∙ is) in
       (reopened h pairs t m l p c₁ c₂ bounded k.0 k.1).refused f (ap (λ (u : Opened). u.answer) same ∙ e)
 
-  verdict : (t : Tally) (told : Option Contents) (a : Phase) (l : Option Contents) → Kept h pairs t (at a l) → Owes told a l → Bounded (medium_in a) → (r : Reply) (z : Moment) → Does h most (at a l) to_open r z
+  verdict : (t : Tally) (told : Option Contents) (a : Phase) (l : Option Contents) → Kept h pairs t (at a l) → Owes told a l → IsBounded (medium_in a) → (r : Reply) (z : Moment) → Does h most (at a l) to_open r z
       → (o : Opened) (v : View) → r ≡ OpenedReply o → o.answer ≡ Ok tt → z.phase ≡ running v → Judged told o v
   verdict t told (running w) l k owes bounded r z d o v is e gives = absurd (no-misfit (sym is ∙ d.answer))
   verdict t told (shut m books) l k owes bounded r z d o v is e gives =
@@ -208,9 +208,9 @@ module _ (h : Rulebook) (most pairs : ℕ) (p : Paired pairs) (c₁ : (h.kind se
       let j₂ = subst (λ u. Judged l o u) engine j₁ in
       subst (λ u. Judged u o v) owes j₂
 
-  module _ {D : Type 0} (makes : D → DeviceCall → D → Type 0) (means : D → Medium) (bounds : (x : D) → Bounded (means x)) where
-    bounded-in : (a : Phase) (x : D) → means x ≡ medium_in a → Bounded (medium_in a)
-    bounded-in a x e = subst Bounded e (bounds x)
+  module _ {D : Type 0} (makes : D → DeviceCall → D → Type 0) (means : D → Medium) (bounds : (x : D) → IsBounded (means x)) where
+    bounded-in : (a : Phase) (x : D) → means x ≡ medium_in a → IsBounded (medium_in a)
+    bounded-in a x e = subst IsBounded e (bounds x)
 
     path-means : {a b : Moment} {d e : D} {cs : List Order} {rs : List Reply} → Path makes means h most a d cs rs b e → means e ≡ medium_in b.phase
     path-means (done is) = is
@@ -229,7 +229,7 @@ module _ (h : Rulebook) (most pairs : ℕ) (p : Paired pairs) (c₁ : (h.kind se
       owes : Owes (last_closing q) b.phase b.owed
       owes = subst (λ u. Owes u b.phase b.owed) (or-none (last_closing q)) (owes-along h most None q none)
 
-      bounded : Bounded (medium_in b.phase)
+      bounded : IsBounded (medium_in b.phase)
       bounded = bounded-in b.phase e (path-means q)
 
       pub law : Law h most pairs cs rs (last_closing q) b

@@ -12,7 +12,7 @@ use Rattle.rulebook.specs.Law.{SaidBy}
 use Rattle.rulebook.specs.Words.{LastWords}
 use Rattle.device.specs.Medium.{Medium}
 use Rattle.device.specs.Calls.{Answer}
-use Rattle.device.specs.Traces.{DeviceCall, Traced}
+use Rattle.device.specs.Traces.{DeviceCall, IsTrace}
 use Rattle.journal.specs.Blocks.{header_bytes}
 use Rattle.journal.specs.Journal.{Journal}
 use Rattle.journal.specs.Format.{no_room, format_answer, Formatted, format_calls}
@@ -90,7 +90,7 @@ module _ (h : Rulebook) (most pairs : ℕ) where
         → TellsTally told (tally cs rs)
     -- an open that comes next, of a device with calls enough, is answered 0
     pub prompt : (m : Medium) (books : Side → Holdings) → b.phase ≡ shut m books
-        → enough_to_open ≤ m.left
+        → enough_to_open ≤ m.calls_left
         → (r : Reply) (z : Moment) → Does h most b to_open r z → OpenedWell r
     -- and after one that is answered 0, the verdict on that closing's slip, if any, is 0 or 1
     pub verdict : (r : Reply) (z : Moment) → Does h most b to_open r z
@@ -101,7 +101,7 @@ module _ (h : Rulebook) (most pairs : ℕ) where
   pub record Beyond (cs : List Order) (rs : List Reply) (b : Moment) : Type 0 where
     -- the calls that reading a journal of so many pairs takes at most are enough
     pub prompt : (m : Medium) (books : Side → Holdings) → b.phase ≡ shut m books
-        → 1 + 2 * pairs ≤ m.left
+        → 1 + 2 * pairs ≤ m.calls_left
         → (r : Reply) (z : Moment) → Does h most b to_open r z → OpenedWell r
     -- an open is refused for want of calls only
     pub refused : (r : Reply) (z : Moment) → Does h most b to_open r z
@@ -120,8 +120,8 @@ module _ {D : Type 0} (makes : D → DeviceCall → D → Type 0) (means : D →
     -- else its calls were made, up to the first that found none left
     pub after : no_room pairs (means d).size ≡ false
         → Formatted (header_bytes (header_for h pairs)) pairs (means d) (means e)
-    pub trace : Traced makes
-        (format_calls (header_bytes (header_for h pairs)) pairs (means d).size (means d).left) d e
+    pub trace : IsTrace makes
+        (format_calls (header_bytes (header_for h pairs)) pairs (means d).size (means d).calls_left) d e
 
   module _ (most pairs : ℕ) (d : D) (books : Side → Holdings) where
     -- A format of d with so many pairs was answered 0, and from there the calls cs, answered rs,

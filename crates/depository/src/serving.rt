@@ -34,7 +34,7 @@ impl<D: PoweredDevice, R: Book, C: Book> Depository<D, R, C> {
     fn run(self, calls: &[Call<'_>], replies: &mut Vec<Reply>) -> Self
         requires room { vec_len replies.old + length calls.now ≤ vec_capacity replies.old }
         requires none { replies.old.items ≡ [] }
-        ensures path { Path D.makes D.Device.medium (rulebook R.book_kind C.book_kind) D.PoweredDevice.most
+        ensures path { Path D.makes D.Device.medium (rulebook R.book_kind C.book_kind) D.PoweredDevice.most_calls
             (moment_of self) (device_of self.condition) (map order calls.now) replies.new.items
             (moment_of result) (device_of result.condition) }
         ensures room { vec_capacity replies.new ≡ vec_capacity replies.old }
@@ -86,7 +86,7 @@ pub fn serve<D: PoweredDevice, R: Book, C: Book>(
         let books = by_side (R.holdings register) (C.holdings cash) in
         let b = moment_of result.0 in let e = device_of result.0.condition in
         MatchResult result.1
-        (λ _. Survives D.makes means h D.PoweredDevice.most pairs device books
+        (λ _. Survives D.makes means h D.PoweredDevice.most_calls pairs device books
         (map order calls.now) replies.new.items b e)
         (λ stop. Stopped D.makes means h pairs device books stop b e) }
     ensures room { result.1 ≡ Err (NoMemory alloc_error)

@@ -41,7 +41,7 @@ impl<D: PoweredDevice, R: Book, C: Book> Depository<D, R, C> {
     // from a call would not know it.
     pub(crate) fn instruct(&mut self, x: Instruction) -> Reply
         ensures fit { Fit x }
-        ensures does { Does (rulebook R.book_kind C.book_kind) D.PoweredDevice.most
+        ensures does { Does (rulebook R.book_kind C.book_kind) D.PoweredDevice.most_calls
             (moment_of self.old) (to_instruct x) result (moment_of self.new) }
         ensures device { Handled D.makes (rulebook R.book_kind C.book_kind) (moment_of self.old).phase
             (to_instruct x) (device_of self.old.condition) (device_of self.new.condition) }
@@ -53,7 +53,7 @@ impl<D: PoweredDevice, R: Book, C: Book> Depository<D, R, C> {
     }
 
     fn close(self) -> (Self, Reply)
-        ensures does { Does (rulebook R.book_kind C.book_kind) D.PoweredDevice.most
+        ensures does { Does (rulebook R.book_kind C.book_kind) D.PoweredDevice.most_calls
             (moment_of self) to_close result.1 (moment_of result.0) }
         ensures device { Handled D.makes (rulebook R.book_kind C.book_kind) (moment_of self).phase to_close
             (device_of self.condition) (device_of result.0.condition) }
@@ -71,7 +71,7 @@ impl<D: PoweredDevice, R: Book, C: Book> Depository<D, R, C> {
     }
 
     pub(crate) fn restart(&mut self, calls: u32, remains: &[u8]) -> Reply
-        ensures does { Does (rulebook R.book_kind C.book_kind) D.PoweredDevice.most
+        ensures does { Does (rulebook R.book_kind C.book_kind) D.PoweredDevice.most_calls
             (moment_of self.old) (to_restart calls remains.now) result (moment_of self.new) }
         ensures device { Handled D.makes (rulebook R.book_kind C.book_kind) (moment_of self.old).phase
             (to_restart calls remains.now)
@@ -87,7 +87,7 @@ impl<D: PoweredDevice, R: Book, C: Book> Depository<D, R, C> {
     }
 
     fn open(self) -> (Self, Reply)
-        ensures does { Does (rulebook R.book_kind C.book_kind) D.PoweredDevice.most
+        ensures does { Does (rulebook R.book_kind C.book_kind) D.PoweredDevice.most_calls
             (moment_of self) to_open result.1 (moment_of result.0) }
         ensures device { Handled D.makes (rulebook R.book_kind C.book_kind) (moment_of self).phase to_open
             (device_of self.condition) (device_of result.0.condition) }
@@ -113,7 +113,7 @@ impl<D: PoweredDevice, R: Book, C: Book> Depository<D, R, C> {
 
     // A question moves nothing.
     pub(crate) fn ask(&self, question: &Question) -> Reply
-        ensures { Does (rulebook R.book_kind C.book_kind) D.PoweredDevice.most
+        ensures { Does (rulebook R.book_kind C.book_kind) D.PoweredDevice.most_calls
             (moment_of self.now) (to_ask question.now) result (moment_of self.now) }
     {
         match &self.condition {
@@ -125,7 +125,7 @@ impl<D: PoweredDevice, R: Book, C: Book> Depository<D, R, C> {
     // Gives one call, and answers it.
     pub(crate) fn give(mut self, call: &Call<'_>) -> (Self, Reply)
         ensures fit { (x : Instruction) → order call.now ≡ to_instruct x → Fit x }
-        ensures does { Does (rulebook R.book_kind C.book_kind) D.PoweredDevice.most
+        ensures does { Does (rulebook R.book_kind C.book_kind) D.PoweredDevice.most_calls
             (moment_of self) (order call.now) result.1 (moment_of result.0) }
         ensures device { Handled D.makes (rulebook R.book_kind C.book_kind) (moment_of self).phase
             (order call.now) (device_of self.condition) (device_of result.0.condition) }

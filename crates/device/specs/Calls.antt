@@ -17,14 +17,14 @@ admitted size left b n =
     (Err (fault_at 12 b)))
 
 abbrev pub write_answer : Medium → ℕ → ℕ → Answer
-write_answer m b n = admitted m.size m.left b n
+write_answer m b n = admitted m.size m.calls_left b n
 
 -- the check of a sync
 abbrev pub spend_answer : ℕ → Answer
 spend_answer left = cond (left == 0) (Err (fault 13)) (Ok tt)
 
 abbrev pub sync_answer : Medium → Answer
-sync_answer m = spend_answer m.left
+sync_answer m = spend_answer m.calls_left
 
 -- what an admitted read of block b answers, by what b holds
 abbrev pub found : ℕ → Option (List ℕ) → Answer
@@ -59,7 +59,7 @@ pub record Elsewhere (m m' : Medium) (b : ℕ) : Type 0 where
 pub record Read (m m' : Medium) (b : ℕ) (old new : List ℕ) (r : Answer) : Type 0 where
   pub answer : r ≡ read_answer m b (length old)
   pub buffer : new ≡ if_ok r (filled (m.holds b) old) old
-  pub left : m'.left ≡ if_ok (write_answer m b (length old)) (m.left - 1) m.left
+  pub calls_left : m'.calls_left ≡ if_ok (write_answer m b (length old)) (m.calls_left - 1) m.calls_left
   pub same : SameBlocks m m'
 
 -- What is known of b: it holds the bytes, loose or not, if the write was accepted; it is as it was if the write was
@@ -70,7 +70,7 @@ Written (Err e) m m' b bytes = (number_of e.refusal ≢ 13) → SameBlocks m m'
 
 pub record Write (m m' : Medium) (b : ℕ) (bytes : List ℕ) (r : Answer) : Type 0 where
   pub answer : r ≡ write_answer m b (length bytes)
-  pub left : m'.left ≡ if_ok r (m.left - 1) m.left
+  pub calls_left : m'.calls_left ≡ if_ok r (m.calls_left - 1) m.calls_left
   pub elsewhere : Elsewhere m m' b
   pub here : Written r m m' b bytes
 
@@ -81,7 +81,7 @@ Synced (Err e) m m' = (k : ℕ) → m'.loose k ≡ true → m.loose k ≡ true
 
 pub record Sync (m m' : Medium) (r : Answer) : Type 0 where
   pub answer : r ≡ sync_answer m
-  pub left : m'.left ≡ if_ok r (m.left - 1) m.left
+  pub calls_left : m'.calls_left ≡ if_ok r (m.calls_left - 1) m.calls_left
   pub size : m'.size ≡ m.size
   pub holds : (k : ℕ) → m'.holds k ≡ m.holds k
   pub loose : Synced r m m'

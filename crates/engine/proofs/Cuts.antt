@@ -93,10 +93,10 @@ pub checked-calm : (h : Rulebook) (x : Instruction) (v : View) (f : Fault) → c
 checked-calm h x v f e = ready-calm v.mode x (and_then (verdict h v.standing x) (room_for x v)) f (λ g q. then-calm (verdict h v.standing x) (room_for x v) g (verdict-calm h v.standing x) (room-calm x v) q) e
 
 -- the four calls of an entry stop with 13, where fewer than four are left
-pub enter-cut : (m : Medium) (k : ℕ) (f : Fault) → enter_answer m k ≡ Err f → (is13 f.refusal ≡ true) × (m.left < 4)
+pub enter-cut : (m : Medium) (k : ℕ) (f : Fault) → enter_answer m k ≡ Err f → (is13 f.refusal ≡ true) × (m.calls_left < 4)
 enter-cut m k f e = grind (arith, e)
 
-pub enter-done : (m : Medium) (k : ℕ) → enter_answer m k ≡ Ok tt → 3 < m.left
+pub enter-done : (m : Medium) (k : ℕ) → enter_answer m k ≡ Ok tt → 3 < m.calls_left
 enter-done m k e = grind (arith, e)
 
 -- what the checks ask for is all that they ask for
@@ -181,8 +181,8 @@ module _ (h : Rulebook) (x : Instruction) (v v' : View) where
         always = λ q l. is;
         hand = λ e. down;
         cut = λ g eg n.
-            subst (λ y. IsFaultOf x (cut_at v.count v.medium.left) (Some v.count) y) (same-fault (about x (in_entry v.count f)) g (sym er ∙ eg))
-            (within-says v.medium.left v.count x f (cut-says v.medium.left v.count f cut.1 ew));
+            subst (λ y. IsFaultOf x (cut_at v.count v.medium.calls_left) (Some v.count) y) (same-fault (about x (in_entry v.count f)) g (sym er ∙ eg))
+            (within-says v.medium.calls_left v.count x f (cut-says v.medium.calls_left v.count f cut.1 ew));
         check = λ g eg n. absurd (n (ap fault_number (sym eg) ∙ is));
       }
 

@@ -42,6 +42,6 @@ FoundBy h pairs xs hand v (Refused f) = (number_of f.refusal ≡ 13) × Journal 
 -- not refused.
 pub record OpenedOn (h : Rulebook) (pairs : ℕ) (m : Medium) (xs : List Instruction) (hand : Option Instruction) (v : View) : Type 0 where
   pub same : SameBlocks m v.medium
-  pub fewer : v.medium.left ≤ m.left
-  pub prompt : 1 + 2 * pairs ≤ m.left → v.mode ≡ Open
+  pub fewer : v.medium.calls_left ≤ m.calls_left
+  pub prompt : 1 + 2 * pairs ≤ m.calls_left → v.mode ≡ Open
   pub found : FoundBy h pairs xs hand v v.mode

@@ -9,7 +9,7 @@ use Rattle.refusals.specs.Faults.{at_block}
 use Rattle.instruction.specs.declared.Instruction.{Instruction}
 use Rattle.rulebook.specs.Terms.{securities, cash}
 use Rattle.rulebook.specs.Rules.{Rulebook, Standing, empty, effect, Runs, more}
-use Rattle.device.specs.Medium.{Medium, Bounded}
+use Rattle.device.specs.Medium.{Medium, IsBounded}
 use Rattle.device.specs.Calls.{SameBlocks}
 use Rattle.journal.specs.Journal.{Layout, mark_at, Good, Says, Journal}
 use Rattle.journal.specs.Blocks.{header_bytes, no_instruction}
@@ -74,7 +74,7 @@ module _ (h : Rulebook) (pairs : ℕ) where
       }
 
   -- an opening that reads all of the journal finds the list, with or without what was in hand
-  pub list-found : (m : Medium) (xs : List Instruction) (hand : Option Instruction) → pairs ≤ 32767 → Bounded m → 0 < m.left → Journal L m xs hand
+  pub list-found : (m : Medium) (xs : List Instruction) (hand : Option Instruction) → pairs ≤ 32767 → IsBounded m → 0 < m.calls_left → Journal L m xs hand
       → (ws : List Instruction) × Found L m ws × WithOrWithout xs hand ws × Journal L m ws None
   list-found m xs None few b l j = (xs, idle-found L m xs j, inl refl, j)
   list-found m xs (Some x) few b l j =
@@ -94,21 +94,21 @@ module _ (h : Rulebook) (pairs : ℕ) where
   leads-on xs hand ws a (inr (x, is, e)) = (effect a.standing x, subst (λ ys. Runs h ys (effect a.standing x)) (sym e) (more x a.runs (a.next x is)))
 
   -- a recovery of that list, by its answer
-  scan-opens : (m : Medium) (xs : List Instruction) (hand : Option Instruction) (ws : List Instruction) (s : Standing) (z : Scan) → pairs ≤ 32767 → 0 < m.left → Journal L m xs hand
-      → WithOrWithout xs hand ws → Journal L m ws None → Runs h ws s → Ends z pairs (m.left - 1) ws s
-      → (r : Result Recovered Fault) → z.outcome ≡ r → OpenedOn h pairs m xs hand (scanned_as r pairs (with_calls z.left m) z.standing)
+  scan-opens : (m : Medium) (xs : List Instruction) (hand : Option Instruction) (ws : List Instruction) (s : Standing) (z : Scan) → pairs ≤ 32767 → 0 < m.calls_left → Journal L m xs hand
+      → WithOrWithout xs hand ws → Journal L m ws None → Runs h ws s → Ends z pairs (m.calls_left - 1) ws s
+      → (r : Result Recovered Fault) → z.outcome ≡ r → OpenedOn h pairs m xs hand (scanned_as r pairs (with_calls z.calls_left m) z.standing)
   scan-opens m xs hand ws s z few l j which kept runs ends (Ok found) e =
       let o = ends.only found e in
-      let fewer : z.left ≤ m.left = omega (arith, ends.fewer) in
+      let fewer : z.calls_left ≤ m.calls_left = omega (arith, ends.fewer) in
       record {
-        same = fewer-calls m z.left;
+        same = fewer-calls m z.calls_left;
         fewer = fewer;
         prompt = λ c. refl;
         found = (
           ws,
           which,
           record {
-            journal = looking L m (with_calls z.left m) ws None kept (fewer-calls m z.left) fewer;
+            journal = looking L m (with_calls z.calls_left m) ws None kept (fewer-calls m z.calls_left) fewer;
             runs = subst (λ t. Runs h ws t) (sym o.1) runs;
             room = refl;
             count = ap (λ (f : Recovered). f.count) o.0;
@@ -118,12 +118,12 @@ module _ (h : Rulebook) (pairs : ℕ) where
         );
       }
   scan-opens m xs hand ws s z few l j which kept runs ends (Err f) e =
-      let fewer : z.left ≤ m.left = omega (arith, ends.fewer) in
+      let fewer : z.calls_left ≤ m.calls_left = omega (arith, ends.fewer) in
       record {
-        same = fewer-calls m z.left;
+        same = fewer-calls m z.calls_left;
         fewer = fewer;
         prompt = λ c. let a = sym e ∙ ends.enough (omega arith) in absurd cc;
-        found = (ends.short f e, looking L m (with_calls z.left m) xs hand j (fewer-calls m z.left) fewer);
+        found = (ends.short f e, looking L m (with_calls z.calls_left m) xs hand j (fewer-calls m z.calls_left) fewer);
       }
 
   module _ (m : Medium) (some : 0 < pairs) (few : pairs ≤ 32767) (within : 1 + 2 * pairs ≤ m.size) where
@@ -140,10 +140,10 @@ module _ (h : Rulebook) (pairs : ℕ) where
     one-spent = cond-false (leb m.size 0) m (drained 1 m) sized
 
     -- without a call the header is not read
-    no-header : m.left ≡ 0 → opened h m ≡ refused_as (at_block NoCalls 0) (drained 1 m)
+    no-header : m.calls_left ≡ 0 → opened h m ≡ refused_as (at_block NoCalls 0) (drained 1 m)
     no-header z =
         let e : header_answer register money m ≡ Err (at_block NoCalls 0) =
-        cond-false (leb m.size 0) _ _ sized ∙ cond-true (eqb m.left 0) _ _ (eq-eqb m.left 0 z) in
+        cond-false (leb m.size 0) _ _ sized ∙ cond-true (eqb m.calls_left 0) _ _ (eq-eqb m.calls_left 0 z) in
         (λ i. opened_on h (one-spent i) (e i))
 
     -- it is for these books, and the device has its blocks
@@ -152,36 +152,36 @@ module _ (h : Rulebook) (pairs : ℕ) where
         ap (header_held register money m.size) e ∙ ap (headed register money m.size) (header-read (header_for h pairs) r c some (omega arith))
         ∙ rw (eq-eqb register register refl, eq-eqb money money refl) (cond-false (ltb m.size (1 + 2 * pairs)) _ _ (le-ltb m.size (1 + 2 * pairs) within))
 
-    pub then-scanned : (m.left ≡ 0 → ⊥) → register < 256 → money < 256 → m.holds 0 ≡ Some (header_bytes (header_for h pairs))
+    pub then-scanned : (m.calls_left ≡ 0 → ⊥) → register < 256 → money < 256 → m.holds 0 ≡ Some (header_bytes (header_for h pairs))
         → opened h m ≡ scanned_on pairs (drained 1 m) (scan h pairs (drained 1 m) 0 empty None)
     then-scanned left r c held =
         let e : header_answer register money m ≡ Ok pairs =
-        cond-false (leb m.size 0) _ _ sized ∙ cond-false (eqb m.left 0) _ _ (ne_eqb m.left 0 left) ∙ header-right r c held in
+        cond-false (leb m.size 0) _ _ sized ∙ cond-false (eqb m.calls_left 0) _ _ (ne_eqb m.calls_left 0 left) ∙ header-right r c held in
         (λ i. opened_on h (one-spent i) (e i))
 
-    module _ (xs : List Instruction) (hand : Option Instruction) (b : Bounded m) (j : Journal L m xs hand) where
-      opens-without : m.left ≡ 0 → OpenedOn h pairs m xs hand (refused_as (at_block NoCalls 0) (drained 1 m))
+    module _ (xs : List Instruction) (hand : Option Instruction) (b : IsBounded m) (j : Journal L m xs hand) where
+      opens-without : m.calls_left ≡ 0 → OpenedOn h pairs m xs hand (refused_as (at_block NoCalls 0) (drained 1 m))
       opens-without z =
-          let fewer : m.left - 1 ≤ m.left = omega arith in
+          let fewer : m.calls_left - 1 ≤ m.calls_left = omega arith in
           record {
-            same = fewer-calls m (m.left - 1);
+            same = fewer-calls m (m.calls_left - 1);
             fewer = fewer;
             prompt = λ l. absurd (omega arith);
-            found = (refl, looking L m (drained 1 m) xs hand j (fewer-calls m (m.left - 1)) fewer);
+            found = (refl, looking L m (drained 1 m) xs hand j (fewer-calls m (m.calls_left - 1)) fewer);
           }
 
-      opens-scanned : (m.left ≡ 0 → ⊥) → Lawful h xs hand → OpenedOn h pairs m xs hand (scanned_on pairs (drained 1 m) (scan h pairs (drained 1 m) 0 empty None))
+      opens-scanned : (m.calls_left ≡ 0 → ⊥) → Lawful h xs hand → OpenedOn h pairs m xs hand (scanned_on pairs (drained 1 m) (scan h pairs (drained 1 m) 0 empty None))
       opens-scanned left lawful =
           let w = list-found m xs hand few b (omega arith) j in
           let to = leads-on xs hand w.0 lawful w.2 in
           let z = scan h pairs (drained 1 m) 0 empty None in
-          scan-opens m xs hand w.0 to.0 z few (omega arith) j w.2 w.3 to.1 (calls-find h pairs m w.0 to.0 few b w.1 to.1 (m.left - 1)) z.outcome refl
+          scan-opens m xs hand w.0 to.0 z few (omega arith) j w.2 w.3 to.1 (calls-find h pairs m w.0 to.0 few b w.1 to.1 (m.calls_left - 1)) z.outcome refl
 
   -- What an opening finds on a device that keeps a list: that list, with or without what was in hand.
   pub opens : (m : Medium) (xs : List Instruction) (hand : Option Instruction) (v : View) → 0 < pairs → pairs ≤ 32767 → 1 + 2 * pairs ≤ m.size
-      → (h.kind securities).code < 256 → (h.kind cash).code < 256 → Bounded m → Journal L m xs hand → Lawful h xs hand → v ≡ opened h m → OpenedOn h pairs m xs hand v
+      → (h.kind securities).code < 256 → (h.kind cash).code < 256 → IsBounded m → Journal L m xs hand → Lawful h xs hand → v ≡ opened h m → OpenedOn h pairs m xs hand v
   opens m xs hand v some few within r c b j lawful is =
-      elim (cases_eq m.left 0) [
+      elim (cases_eq m.calls_left 0) [
         | inl z ↦
             subst (λ u. OpenedOn h pairs m xs hand u) (sym (is ∙ no-header m some few within z)) (opens-without m some few within xs hand b j z)
         | inr left ↦

@@ -10,7 +10,7 @@ use Rattle.instruction.specs.Layout.{Fit}
 use Rattle.rulebook.specs.Terms.{securities, cash}
 use Rattle.rulebook.specs.Rules.{Rulebook, Standing, empty, answer, verdict, effect, Runs, start, more}
 use Rattle.ledger.proofs.Carried.{accepts}
-use Rattle.device.specs.Medium.{Medium, Bounded}
+use Rattle.device.specs.Medium.{Medium, IsBounded}
 use Rattle.device.specs.Calls.{SameBlocks}
 use Rattle.journal.specs.declared.header.Header.{Header}
 use Rattle.journal.specs.Journal.{record_at, mark_at}
@@ -63,7 +63,7 @@ record Heads (h : Rulebook) (m : Medium) (pairs : ℕ) : Type 0 where
   some : 0 < pairs
   fits : Fits pairs m
 
-module _ (h : Rulebook) (m : Medium) (b : Bounded m) where
+module _ (h : Rulebook) (m : Medium) (b : IsBounded m) where
   abbrev register : ℕ
   register = (h.kind securities).code
 
@@ -96,7 +96,7 @@ module _ (h : Rulebook) (m : Medium) (b : Bounded m) where
   heads : (pairs : ℕ) → header_answer register money m ≡ Ok pairs → Heads h m pairs
   heads pairs e =
       let p = spared (leb m.size 0) _ _ pairs e in
-      let q = spared (eqb m.left 0) _ _ pairs p.1 in
+      let q = spared (eqb m.calls_left 0) _ _ pairs p.1 in
       heads-held pairs (m.holds 0) refl q.1
 
   -- the first k entries have been read, and lead to s
@@ -164,7 +164,7 @@ module _ (h : Rulebook) (m : Medium) (b : Bounded m) where
     -- the mark's test, from its answer
     tested : (on : Medium) (t : Bool) → mark_answer on k ≡ Ok t → good k (on.holds (mark_at k)) ≡ t
     tested on t e =
-        let p = spared (eqb on.left 0) _ _ t e in
+        let p = spared (eqb on.calls_left 0) _ _ t e in
         let o : ◌≡◌ {A = Result Bool Fault} (Ok (good k (on.holds (mark_at k)))) (Ok t) = p.1 in
         cc
 
@@ -172,7 +172,7 @@ module _ (h : Rulebook) (m : Medium) (b : Bounded m) where
     entry-read calls x e =
         let on = with_calls calls m in
         let p = marked-so on x (mark_answer on k) e in
-        let q = spared (eqb (drained 1 on).left 0) (said k (m.holds (record_at k))) _ x p.1 in
+        let q = spared (eqb (drained 1 on).calls_left 0) (said k (m.holds (record_at k))) _ x p.1 in
         let r = said-from k (m.holds (record_at k)) x q.1 in
         let w : record_bytes k x ≡ r.0 = record-back r.0 (b.whole (record_at k) r.0 r.1) (b.bytes (record_at k) r.0 r.1) k x r.2 in
         record {
@@ -235,7 +235,7 @@ module _ (h : Rulebook) (m : Medium) (b : Bounded m) where
 
   module _ (pairs : ℕ) (w : Heads h m pairs) where
     -- by what entry k answers, where it is known why what comes after it is refused
-    turn-refuses : (n k calls : ℕ) (s : Standing) (last : Option Instruction) (f : Fault) → k < pairs → m.left ≡ calls + (1 + 2 * k) → Prefix k s last
+    turn-refuses : (n k calls : ℕ) (s : Standing) (last : Option Instruction) (f : Fault) → k < pairs → m.calls_left ≡ calls + (1 + 2 * k) → Prefix k s last
         → ((x : Instruction) → ReadsEntry k s x → 2 ≤ calls → (onward pairs w.fits.few n k calls s x).outcome ≡ Err f → ListRefused h m f)
         → (r : Result (Option Instruction) Fault) → entry_answer h (with_calls calls m) s k ≡ r
         → (turn r (with_calls calls m) k s last (onward pairs w.fits.few n k calls s)).outcome ≡ Err f → ListRefused h m f
@@ -250,7 +250,7 @@ module _ (h : Rulebook) (m : Medium) (b : Bounded m) where
       refused = subst (λ x. EntryRefused h m k s x) (same-fault {X = Recovered} g f e) (entry-refuses h m b g k s (omega (arith, w.fits.few)) calls spent is);
     }
 
-    scan-refuses : (n k calls : ℕ) (s : Standing) (last : Option Instruction) (f : Fault) → n + k ≡ pairs → m.left ≡ calls + (1 + 2 * k) → Prefix k s last
+    scan-refuses : (n k calls : ℕ) (s : Standing) (last : Option Instruction) (f : Fault) → n + k ≡ pairs → m.calls_left ≡ calls + (1 + 2 * k) → Prefix k s last
         → (scan h n (with_calls calls m) k s last).outcome ≡ Err f → ListRefused h m f
     unfolding scan
     scan-refuses zero k calls s last f l spent p e = absurd cc
@@ -262,7 +262,7 @@ module _ (h : Rulebook) (m : Medium) (b : Bounded m) where
   -- by what the recovery answers
   scanned-well : (pairs : ℕ) (z : Scan) (r : Result Recovered Fault) → Heads h m pairs → ((found : Recovered) → r ≡ Ok found → Reads pairs z.standing found)
       → ((f : Fault) → r ≡ Err f → ListRefused h m f)
-      → Opens h m (scanned_as r pairs (with_calls z.left m) z.standing) (scanned_as r pairs (with_calls z.left m) z.standing).mode
+      → Opens h m (scanned_as r pairs (with_calls z.calls_left m) z.standing) (scanned_as r pairs (with_calls z.calls_left m) z.standing).mode
   scanned-well pairs z (Ok found) w reads refuses =
       let r = reads found refl in
       record {
@@ -274,11 +274,11 @@ module _ (h : Rulebook) (m : Medium) (b : Bounded m) where
   scanned-well pairs z (Err f) w reads refuses = (record { standing = refl; pairs = refl; found = refl; last = refl; count = refl }, inr (refuses f refl))
 
   -- and by what the header's checks answer
-  headed-well : (n : ℕ) (r : Result ℕ Fault) → (0 < m.size → n ≡ m.left - 1) → header_answer register money m ≡ r → Opens h m (opened_on h (with_calls n m) r) (opened_on h (with_calls n m) r).mode
+  headed-well : (n : ℕ) (r : Result ℕ Fault) → (0 < m.size → n ≡ m.calls_left - 1) → header_answer register money m ≡ r → Opens h m (opened_on h (with_calls n m) r) (opened_on h (with_calls n m) r).mode
   headed-well n (Ok pairs) spent e =
       let w = heads pairs e in
       let z = scan h pairs (with_calls n m) 0 empty None in
-      let calls : m.left ≡ n + (1 + 2 * 0) = omega (arith, spent (omega (arith, w.fits.within)), (header-spends register money pairs m (sym e)).0) in
+      let calls : m.calls_left ≡ n + (1 + 2 * 0) = omega (arith, spent (omega (arith, w.fits.within)), (header-spends register money pairs m (sym e)).0) in
       scanned-well pairs z z.outcome w (λ found o. scan-reads pairs w.fits.few pairs 0 n empty None found (omega arith) none-read o)
       (λ f o. scan-refuses pairs w pairs 0 n empty None f (omega arith) calls none-read o)
   headed-well n (Err f) spent e = (record { standing = refl; pairs = refl; found = refl; last = refl; count = refl }, inl (header-refuses h m b f e))
@@ -335,12 +335,12 @@ module _ (h : Rulebook) (m : Medium) (w : View) (f : FoundOn h m w) where
         stop = λ l. subst (λ k. m.holds (mark_at k) ≡ Some (mark_bytes k) → ⊥) (sym n) (f.stop (omega arith));
       }
 
-  promptly : Bounded m → (h.kind securities).code < 256 → (h.kind cash).code < 256 → 1 + 2 * w.pairs ≤ m.left → (opened h m).mode ≡ Open
+  promptly : IsBounded m → (h.kind securities).code < 256 → (h.kind cash).code < 256 → 1 + 2 * w.pairs ≤ m.calls_left → (opened h m).mode ≡ Open
   promptly b r c calls =
       let z = scan h w.pairs (drained 1 m) 0 empty None in
-      let ends = calls-find h w.pairs m (listed m w.found) w.standing f.entries.fits.few b finds f.entries.list (m.left - 1) in
+      let ends = calls-find h w.pairs m (listed m w.found) w.standing f.entries.fits.few b finds f.entries.list (m.calls_left - 1) in
       ap (λ (v : View). v.mode) (then-scanned h w.pairs m f.entries.some f.entries.fits.few f.entries.fits.within (λ none. omega arith) r c f.entries.head)
-      ∙ ap (λ r. (scanned_as r w.pairs (with_calls z.left m) z.standing).mode) (ends.enough (omega arith))
+      ∙ ap (λ r. (scanned_as r w.pairs (with_calls z.calls_left m) z.standing).mode) (ends.enough (omega arith))
 
 -- an opening only reads
 
@@ -349,17 +349,17 @@ scanned-kept m pairs n s (Ok f) = fewer-calls m n
 scanned-kept m pairs n s (Err f) = fewer-calls m n
 
 opened-kept : (h : Rulebook) (m : Medium) (n : ℕ) (r : Result ℕ Fault) → SameBlocks m (opened_on h (with_calls n m) r).medium
-opened-kept h m n (Ok pairs) = let z = scan h pairs (with_calls n m) 0 empty None in scanned-kept m pairs z.left z.standing z.outcome
+opened-kept h m n (Ok pairs) = let z = scan h pairs (with_calls n m) 0 empty None in scanned-kept m pairs z.calls_left z.standing z.outcome
 opened-kept h m n (Err f) = fewer-calls m n
 
 -- the device after the header's checks
-after-checked : (m : Medium) → (n : ℕ) × (after_header m ≡ with_calls n m) × (0 < m.size → n ≡ m.left - 1)
+after-checked : (m : Medium) → (n : ℕ) × (after_header m ≡ with_calls n m) × (0 < m.size → n ≡ m.calls_left - 1)
 after-checked m =
     elim (cases_Bool (leb m.size 0)) [
       | inl z ↦
           let none = leb-true m.size 0 z in
-          (m.left, cond-true (leb m.size 0) m (drained 1 m) z, λ l. absurd (omega arith))
-      | inr some ↦ (m.left - 1, cond-false (leb m.size 0) m (drained 1 m) some, λ l. refl)
+          (m.calls_left, cond-true (leb m.size 0) m (drained 1 m) z, λ l. absurd (omega arith))
+      | inr some ↦ (m.calls_left - 1, cond-false (leb m.size 0) m (drained 1 m) some, λ l. refl)
     ]
 
 -- What an opening found on any device, where that is so, and what it leaves of the device.
@@ -367,7 +367,7 @@ module _ (h : Rulebook) (m : Medium) where
   abbrev checks : Result ℕ Fault
   checks = header_answer (h.kind securities).code (h.kind cash).code m
 
-  pub opens-well : {v : View} → v ≡ opened h m → Bounded m → Opens h m v v.mode
+  pub opens-well : {v : View} → v ≡ opened h m → IsBounded m → Opens h m v v.mode
   opens-well {v} is b =
       let a = after-checked m in
       let e : v ≡ opened_on h (with_calls a.0 m) checks = is ∙ ap (λ d. opened_on h d checks) a.1 in
@@ -379,5 +379,5 @@ module _ (h : Rulebook) (m : Medium) where
       let e : v ≡ opened_on h (with_calls a.0 m) checks = is ∙ ap (λ d. opened_on h d checks) a.1 in
       subst (λ u. SameBlocks m u.medium) (sym e) (opened-kept h m a.0 checks)
 
-  pub opens-promptly : {v : View} → v ≡ opened h m → Bounded m → (h.kind securities).code < 256 → (h.kind cash).code < 256 → Prompt h m v.mode
+  pub opens-promptly : {v : View} → v ≡ opened h m → IsBounded m → (h.kind securities).code < 256 → (h.kind cash).code < 256 → Prompt h m v.mode
   opens-promptly is b r c w f calls = ap (λ (u : View). u.mode) is ∙ promptly h m w f b r c calls

@@ -88,9 +88,9 @@ cut_at k left = cond (left == 0) (Some (record_at k)) (cond (left == 2) (Some (m
 -- then in hand, and the engine is down. Such a fault names the entry, and the block of a write; one of
 -- the checks names neither.
 pub record CutShort (h : Rulebook) (x : Instruction) (v v' : View) (r : Answer) : Type 0 where
-  pub only : fault_number r ≡ 13 → Passes h x v × (v.medium.left < 4)
-  pub always : Passes h x v → v.medium.left < 4 → fault_number r ≡ 13
+  pub only : fault_number r ≡ 13 → Passes h x v × (v.medium.calls_left < 4)
+  pub always : Passes h x v → v.medium.calls_left < 4 → fault_number r ≡ 13
   pub hand : fault_number r ≡ 13 → v'.mode ≡ Down x
   pub cut : (f : Fault) → r ≡ Err f → number_of f.refusal ≡ 13
-      → IsFaultOf x (cut_at v.count v.medium.left) (Some v.count) f
+      → IsFaultOf x (cut_at v.count v.medium.calls_left) (Some v.count) f
   pub check : (f : Fault) → r ≡ Err f → number_of f.refusal ≢ 13 → IsFaultOf x None None f

@@ -34,7 +34,7 @@ header_held register money size (Some bs) = headed register money size (header_i
 abbrev pub header_answer : ℕ → ℕ → Medium → Result ℕ Fault
 header_answer register money m =
     cond (nat_le m.size 0) (Err (fault_at 11 0))
-    (cond (m.left == 0) (Err (fault_at 13 0)) (header_held register money m.size (m.holds 0)))
+    (cond (m.calls_left == 0) (Err (fault_at 13 0)) (header_held register money m.size (m.holds 0)))
 
 -- the device after them
 abbrev pub after_header : Medium → Medium
@@ -52,7 +52,7 @@ scanned_as (Ok r) pairs m s = found_as r pairs m s
 scanned_as (Err f) pairs m s = refused_as f m
 
 abbrev pub scanned_on : ℕ → Medium → Scan → View
-scanned_on pairs m z = scanned_as z.outcome pairs (with_calls z.left m) z.standing
+scanned_on pairs m z = scanned_as z.outcome pairs (with_calls z.calls_left m) z.standing
 
 abbrev pub opened_on : Rulebook → Medium → Result ℕ Fault → View
 opened_on h m (Err f) = refused_as f m

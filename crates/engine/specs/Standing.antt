@@ -53,19 +53,19 @@ pub record IsFault (n : ℕ) (b k : Option ℕ) (f : Fault) : Type 0 where
 pub data HeaderRefused (h : Rulebook) (m : Medium) (f : Fault) : Type 0 where
   -- the device has no block
   no-block : m.size ≡ 0 → IsFault 11 (Some 0) None f → HeaderRefused h m f
-  no-header-call : 0 < m.size → m.left ≡ 0 → IsFault 13 (Some 0) None f → HeaderRefused h m f
-  unreadable-header : 0 < m.size → 0 < m.left → m.holds 0 ≡ None
+  no-header-call : 0 < m.size → m.calls_left ≡ 0 → IsFault 13 (Some 0) None f → HeaderRefused h m f
+  unreadable-header : 0 < m.size → 0 < m.calls_left → m.holds 0 ≡ None
       → IsFault 14 (Some 0) None f → HeaderRefused h m f
   -- block 0 is no header that a journal can have
-  no-header : 0 < m.left → (bs : List ℕ) → m.holds 0 ≡ Some bs
+  no-header : 0 < m.calls_left → (bs : List ℕ) → m.holds 0 ≡ Some bs
       → ((head : Header) → Proper head → header_bytes head ≢ bs)
       → IsFault 43 None None f → HeaderRefused h m f
   -- it is one of books of other kinds
-  other-kinds : 0 < m.left → (head : Header) → Proper head → m.holds 0 ≡ Some (header_bytes head)
+  other-kinds : 0 < m.calls_left → (head : Header) → Proper head → m.holds 0 ≡ Some (header_bytes head)
       → (head.register ≡ (h.kind securities).code → head.cash ≡ (h.kind cash).code → ⊥)
       → IsFault 44 None None f → HeaderRefused h m f
   -- it is one of more pairs than the device has blocks for
-  too-few-blocks : 0 < m.left → (head : Header) → Proper head
+  too-few-blocks : 0 < m.calls_left → (head : Header) → Proper head
       → m.holds 0 ≡ Some (header_bytes head)
       → head.register ≡ (h.kind securities).code → head.cash ≡ (h.kind cash).code
       → m.size < 1 + 2 * head.pairs → IsFault 45 None None f → HeaderRefused h m f
@@ -83,19 +83,19 @@ pub record IsRuleFault (k : ℕ) (x : Instruction) (r : Refusal) (f : Fault) : T
 -- header, and two each of the entries before it.
 pub data EntryRefused (h : Rulebook) (m : Medium) (k : ℕ) (s : Standing) (f : Fault) : Type 0 where
   -- no call is left for the mark,
-  no-mark-call : m.left ≡ 1 + 2 * k
+  no-mark-call : m.calls_left ≡ 1 + 2 * k
       → IsFault 13 (Some (mark_at k)) (Some k) f → EntryRefused h m k s f
   -- or for the record after a good mark
-  no-record-call : GoodMark m k → m.left ≡ 2 + 2 * k
+  no-record-call : GoodMark m k → m.calls_left ≡ 2 + 2 * k
       → IsFault 13 (Some (record_at k)) (Some k) f → EntryRefused h m k s f
-  unreadable-record : GoodMark m k → 2 + 2 * k < m.left → m.holds (record_at k) ≡ None
+  unreadable-record : GoodMark m k → 2 + 2 * k < m.calls_left → m.holds (record_at k) ≡ None
       → IsFault 14 (Some (record_at k)) (Some k) f → EntryRefused h m k s f
   -- the block is the record of no instruction
-  malformed : GoodMark m k → 2 + 2 * k < m.left → (bs : List ℕ) → m.holds (record_at k) ≡ Some bs
+  malformed : GoodMark m k → 2 + 2 * k < m.calls_left → (bs : List ℕ) → m.holds (record_at k) ≡ Some bs
       → ((x : Instruction) → Fit x → record_bytes k x ≢ bs)
       → IsFault 46 None (Some k) f → EntryRefused h m k s f
   -- it is the record of an instruction that the rules refuse
-  rules-refuse : GoodMark m k → 2 + 2 * k < m.left → (x : Instruction)
+  rules-refuse : GoodMark m k → 2 + 2 * k < m.calls_left → (x : Instruction)
       → m.holds (record_at k) ≡ Some (record_bytes k x)
       → (r : Refusal) → answer h s x ≡ Err r → IsRuleFault k x r f → EntryRefused h m k s f
 
@@ -124,4 +124,4 @@ Opens h m v (Refused f) = FoundNothing v × (HeaderRefused h m f ⊎ ListRefused
 
 -- where there is something to be found, and the calls to read it, the opening is not refused
 abbrev pub Prompt : Rulebook → Medium → Mode → Type 0
-Prompt h m mode = (w : View) → FoundOn h m w → 1 + 2 * w.pairs ≤ m.left → mode ≡ Open
+Prompt h m mode = (w : View) → FoundOn h m w → 1 + 2 * w.pairs ≤ m.calls_left → mode ≡ Open

@@ -2,7 +2,7 @@
 ghost use Rattle.std.specs.Prelude.{◌≡◌, ◌<◌, IfOk, Ok};
 ghost use Rattle.journal.specs.Places.{EntryPlaces};
 ghost use Rattle.ledger.specs.View.{rulebook};
-ghost use Rattle.device.specs.Traces.{Traced};
+ghost use Rattle.device.specs.Traces.{IsTrace};
 ghost use Rattle.engine.specs.View.{view};
 ghost use Rattle.engine.specs.Instructing.{checked, Instructed, CutShort};
 ghost use Rattle.engine.specs.Tracing.{instruct_calls};
@@ -42,7 +42,7 @@ impl<D: Device, R: Book, C: Book> Engine<D, R, C> {
         ensures places { let v = view D.medium self.old in result ≡ Ok tt
             → EntryPlaces v.count x.now v.medium (view D.medium self.new).medium }
         ensures trace { let v = view D.medium self.old in
-            Traced D.makes (instruct_calls (rulebook R.book_kind C.book_kind) x.now v) self.old.device self.new.device }
+            IsTrace D.makes (instruct_calls (rulebook R.book_kind C.book_kind) x.now v) self.old.device self.new.device }
     {
         self.check(x)?;
         if let Err(fault) = enter(&mut self.device, self.count, x) {

@@ -5,10 +5,8 @@ use Rattle.refusals.specs.declared.Refusal.TheVariants.{InputTooLong}
 use Rattle.refusals.specs.declared.Fault.{Fault}
 use Rattle.book.specs.Holdings.{Holdings, nothing}
 use Rattle.ledger.specs.View.{by_side}
-use Rattle.device.specs.Images.{imaged}
 use Rattle.simulated.specs.declared.state.Simulated.{Simulated}
-use Rattle.simulated.specs.Rows.{is_loose, shown}
-use Rattle.simulated.specs.Meaning.{image_of, meaning, state_of, Makes}
+use Rattle.simulated.specs.Meaning.{image_of, meaning, meaning_of, state_of, Makes}
 use Rattle.simulated.proofs.Kind.{fixed}
 use Rattle.journal.specs.Format.{format_answer}
 use Rattle.depository.proofs.Fixing.{Settled}
@@ -26,11 +24,11 @@ zeros-count : (n : ℕ) → length (zero_bytes n) ≡ n
 unfolding zero_bytes
 zeros-count n = length-replicate n 0
 
-formats-on : (image : List ℕ) (left : ℕ) → length image ≡ 65278 → left ≡ 1000000 → format_answer 63 (imaged 514 shown is_loose image left) ≡ Ok tt
+formats-on : (image : List ℕ) (left : ℕ) → length image ≡ 65278 → left ≡ 1000000 → format_answer 63 (meaning_of image left) ≡ Ok tt
 formats-on image left e el = rw (e, el) refl
 
 formats : (d : Simulated) → IsNew d → format_answer 63 (meaning d) ≡ Ok tt
-formats d n = formats-on (image_of d) d.rows.left (ap length n.image ∙ zeros-count 65278) n.calls
+formats d n = formats-on (image_of d) d.rows.calls_left (ap length n.image ∙ zeros-count 65278) n.calls
 
 pub prints-key : (d : Simulated) (r c : Holdings) (script : List ℕ) (answers shown : List Answer) (text : List ℕ) → IsNew d → r ≡ nothing → c ≡ nothing
     → Keyed Makes meaning two_balances 4294967295 63 d (by_side r c) script answers → shown ≡ answers → text ≡ key_text 1 shown → Printed script text

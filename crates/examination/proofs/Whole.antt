@@ -160,13 +160,13 @@ module _ (h : Rulebook) (most : ℕ) where
         let same = same-reply (sym d.answer ∙ well.1) in
         subst Ready (sym d.leads) (record { v = v; l = _; is = refl; owed = owed-well v.mode _ (ap (λ (o : Opened). o.answer) same ∙ well.2) })
 
-    pub whole-key : (pairs : ℕ) (d : D) (books : Side → Holdings) (qs : List (Result Request Refusal)) (rs : List Reply) (b : Moment) (e : D) → Survives makes means h most pairs d books (orders_for qs) rs b e → 6 + 3 * pairs ≤ (means d).left
+    pub whole-key : (pairs : ℕ) (d : D) (books : Side → Holdings) (qs : List (Result Request Refusal)) (rs : List Reply) (b : Moment) (e : D) → Survives makes means h most pairs d books (orders_for qs) rs b e → 6 + 3 * pairs ≤ (means d).calls_left
         → AllByRecursion Whole (answers_for qs (drop 1 rs))
     whole-key pairs d books qs rs b e s calls =
         let run = s.run in
         let m = means run.device in
         let n = next run.path in
-        let left = (run.formatted.after (has-room pairs (means d) run.formatted.format)).left in
+        let left = (run.formatted.after (has-room pairs (means d) run.formatted.format)).calls_left in
         let start : Run makes means h most pairs d books [] [] (at (shut m books) None) run.device = record { device = run.device; formatted = run.formatted; path = done refl } in
         let well = (s.beyond [] [] (at (shut m books) None) run.device start).prompt m books refl (omega (arith, left, calls)) n.reply n.moment n.does in
         subst (λ z. AllByRecursion Whole (answers_for qs (drop 1 z))) (sym n.is) (whole-lines qs n.replies n.moment n.device b e n.path (first m books n.reply n.moment n.does well))

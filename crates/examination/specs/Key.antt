@@ -42,7 +42,7 @@ module _ {D : Type 0} (makes : D → DeviceCall → D → Type 0) (means : D →
     pub answers-are : answers ≡ answers_for (requests_in script) (drop 1 replies)
     pub count : length answers ≡ length (lines_of script)
     -- with calls enough for the format and the first opening
-    pub whole : 6 + 3 * pairs ≤ (means d).left → AllByRecursion Whole answers
+    pub whole : 6 + 3 * pairs ≤ (means d).calls_left → AllByRecursion Whole answers
 
 -- The device could not be formatted, by this fault, and no calls were given; or no memory was found.
 abbrev pub Unserved : ℕ → Medium → Stop → Type 0

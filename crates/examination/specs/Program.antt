@@ -20,7 +20,7 @@ zero_bytes n = replicate n 0
 -- a simulated device over 127 blocks of zeros, with 1,000,000 calls
 pub record IsNew (d : Simulated) : Type 0 where
   pub image : image_of d ≡ zero_bytes 65278
-  pub calls : d.rows.left ≡ 1000000
+  pub calls : d.rows.calls_left ≡ 1000000
 
 -- two books of balances
 abbrev pub two_balances : Rulebook

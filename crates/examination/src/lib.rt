@@ -38,7 +38,7 @@ fn replies_to<D: PoweredDevice + Drop, R: Book + Drop, C: Book + Drop>(
     requires room { length calls.now ≤ vec_capacity replies.old }
     ensures { let means = D.Device.medium in let books = by_side (R.holdings register) (C.holdings cash) in
         MatchResult result
-        (λ _. Replied D.makes means (rulebook R.book_kind C.book_kind) D.PoweredDevice.most pairs device books
+        (λ _. Replied D.makes means (rulebook R.book_kind C.book_kind) D.PoweredDevice.most_calls pairs device books
         (map order calls.now) replies.new.items)
         (λ fault. format_answer pairs (means device) ≡ Err fault) }
 {
@@ -63,7 +63,7 @@ pub fn answer_script<D: PoweredDevice + Drop, R: Book + Drop, C: Book + Drop>(
 ) -> Result<Vec<Answer>, Stop>
     ensures { let means = D.Device.medium in let books = by_side (R.holdings register) (C.holdings cash) in
         MatchResult result
-        (λ answers. Keyed D.makes means (rulebook R.book_kind C.book_kind) D.PoweredDevice.most pairs device books script.now answers.items)
+        (λ answers. Keyed D.makes means (rulebook R.book_kind C.book_kind) D.PoweredDevice.most_calls pairs device books script.now answers.items)
         (λ stop. Stopped pairs (means device) script.now stop) }
 {
     if script.len() > LONGEST {

@@ -10,7 +10,7 @@ use Rattle.refusals.specs.declared.Refusal.TheVariants.{NotAHeader, Malformed}
 use Rattle.instruction.specs.declared.Instruction.{Instruction}
 use Rattle.instruction.specs.Layout.{instruction_in, unused_zero, number_at, Reads, Fit}
 use Rattle.instruction.proofs.Trips.{there, reads}
-use Rattle.device.proofs.Splices.{cut-bytes}
+use Rattle.device.proofs.Bytes.{cut-bytes}
 use Rattle.journal.specs.declared.header.Header.{Header}
 use Rattle.journal.specs.Blocks.{zeros, header_bytes, header_in, is_header, mark_bytes, is_mark, record_bytes, record_in, is_record, all_zero}
 use Rattle.journal.specs.Reading.{Proper, ReadsHeader, ReadsMark, ReadsRecord}

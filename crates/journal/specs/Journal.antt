@@ -28,24 +28,24 @@ Firm m b bs = (m.holds b ≡ Some bs) × (m.loose b ≡ false)
 -- the answer to the four calls of an entry, by the calls left: its record, a sync, its mark, a sync
 abbrev pub enter_answer : Medium → ℕ → Answer
 enter_answer m k =
-    cond (m.left == 0) (Err (fault_at 13 (record_at k)))
-    (cond (m.left == 1) (Err (fault 13))
-    (cond (m.left == 2) (Err (fault_at 13 (mark_at k)))
-    (cond (m.left == 3) (Err (fault 13)) (Ok tt))))
+    cond (m.calls_left == 0) (Err (fault_at 13 (record_at k)))
+    (cond (m.calls_left == 1) (Err (fault 13))
+    (cond (m.calls_left == 2) (Err (fault_at 13 (mark_at k)))
+    (cond (m.calls_left == 3) (Err (fault 13)) (Ok tt))))
 
 -- What the four calls of entry k leave, given the bytes of its record and of its mark, however many of the calls
 -- there was power for: the mark is touched only once the record is safe.
 pub record Entered (entry mark : List ℕ) (k : ℕ) (m m' : Medium) : Type 0 where
   pub size : m'.size ≡ m.size
-  pub left : m'.left ≡ m.left - 4
+  pub calls_left : m'.calls_left ≡ m.calls_left - 4
   pub holds : (b : ℕ) → (b ≢ record_at k) → (b ≢ mark_at k) → m'.holds b ≡ m.holds b
   pub loose : (b : ℕ) → (b ≢ record_at k) → (b ≢ mark_at k) → m.loose b ≡ false → m'.loose b ≡ false
-  pub recorded : 0 < m.left → m'.holds (record_at k) ≡ Some entry
-  pub recorded-firm : 1 < m.left → m'.loose (record_at k) ≡ false
-  pub unmarked : m.left < 2 → m'.holds (mark_at k) ≡ m.holds (mark_at k)
-  pub unmarked-firm : m.left < 2 → m.loose (mark_at k) ≡ false → m'.loose (mark_at k) ≡ false
-  pub marked : 2 < m.left → m'.holds (mark_at k) ≡ Some mark
-  pub firm : 3 < m.left → (b : ℕ) → m'.loose b ≡ false
+  pub recorded : 0 < m.calls_left → m'.holds (record_at k) ≡ Some entry
+  pub recorded-firm : 1 < m.calls_left → m'.loose (record_at k) ≡ false
+  pub unmarked : m.calls_left < 2 → m'.holds (mark_at k) ≡ m.holds (mark_at k)
+  pub unmarked-firm : m.calls_left < 2 → m.loose (mark_at k) ≡ false → m'.loose (mark_at k) ≡ false
+  pub marked : 2 < m.calls_left → m'.holds (mark_at k) ≡ Some mark
+  pub firm : 3 < m.calls_left → (b : ℕ) → m'.loose b ≡ false
 
 module _ {X : Type 0} (L : Layout X) where
   abbrev pub Good : Medium → ℕ → Type 0
@@ -63,7 +63,7 @@ module _ {X : Type 0} (L : Layout X) where
   -- the mark is anyhow, but not loose while calls are left.
   abbrev pub Tail : Medium → ℕ → Option X → Type 0
   Tail m n None = n < L.pairs → Blank m n
-  Tail m n (Some x) = (n < L.pairs) × (Blank m n ⊎ (Says m n x × ((m.left ≡ 0) ⊎ (m.loose (mark_at n) ≡ false))))
+  Tail m n (Some x) = (n < L.pairs) × (Blank m n ⊎ (Says m n x × ((m.calls_left ≡ 0) ⊎ (m.loose (mark_at n) ≡ false))))
 
   -- the device keeps the list, and what is in hand if anything
   pub record Journal (m : Medium) (xs : List X) (hand : Option X) : Type 0 where

@@ -13,6 +13,6 @@ returns-clause-calls g c =
     let bytes = w.bytes.now in
     let rest = restarting cut.calls cut.remains.now ∷ reading w.kept (length c.args.back.now) ∷ [] in
     traced-long g.P.Device.makes (writing w.kept bytes) syncing (writing w.loose bytes)
-    (write_answer m w.kept (length bytes)) (spend_answer (m.left - 1)) (loose_answer m w.loose (length bytes)) rest
+    (write_answer m w.kept (length bytes)) (spend_answer (m.calls_left - 1)) (loose_answer m w.loose (length bytes)) rest
     c.args.device.now c.arm.new.device c.cut_and_read.new.device c.in_ok-arm.ensures.armed.answer c.in_ok-arm.ensures.calls
     c.cut_and_read.ensures.calls

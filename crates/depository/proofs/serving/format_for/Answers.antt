@@ -1,7 +1,7 @@
 use Rattle.std.proofs.Common.{◌≡◌, false, rules}
 use Rattle.rulebook.specs.Terms.{securities, cash}
 use Rattle.ledger.specs.View.{rulebook}
-use Rattle.device.specs.Traces.{Traced}
+use Rattle.device.specs.Traces.{IsTrace}
 use Rattle.journal.specs.Blocks.{header_bytes}
 use Rattle.journal.specs.Format.{no_room, format_answer, header_for, Formatted, format_calls}
 use Rattle.depository.proofs.Starts.{after-format}
@@ -19,5 +19,5 @@ returns g c =
     let money : c.kind-2.result ≡ (h.kind cash).code = search rules in
     let answer : c.format.result ≡ format_answer pairs (means before) = assumption e in
     let after : no_room pairs (means before).size ≡ false → Formatted head pairs (means before) (means c.format.new.device) = assumption e in
-    let trace : Traced g.D.Device.makes (format_calls head pairs (means before).size (means before).left) before c.format.new.device = assumption e in
+    let trace : IsTrace g.D.Device.makes (format_calls head pairs (means before).size (means before).calls_left) before c.format.new.device = assumption e in
     after-format g.D.Device.makes means h pairs before c.format.new.device c.kind.result c.kind-2.result register money c.format.result answer after trace

@@ -2,7 +2,7 @@ use Rattle.std.proofs.Common.{◌≡◌, Ok, Err, [], sym, ap, subst, refl, ◌�
 use Rattle.ledger.specs.View.{rulebook}
 use Rattle.refusals.specs.Answers.{if_ok}
 use Rattle.rulebook.specs.Rules.{about}
-use Rattle.device.specs.Traces.{Traced}
+use Rattle.device.specs.Traces.{IsTrace}
 use Rattle.rulebook.proofs.Givens.{accepted}
 use Rattle.journal.proofs.Placing.{entry-placed}
 use Rattle.engine.specs.View.{view}
@@ -33,7 +33,7 @@ returns-in-Err-clause-trace g c =
     let x = c.args.x.now in
     let v = view g.D.Device.medium c.args.self.now in
     let passed : checked h x v ≡ Ok tt = search rules in
-    subst (λ a. Traced g.D.Device.makes (if_ok a (entry_calls v.count x v.medium.left) []) c.args.self.now.device c.enter.new.device) (sym passed) c.in-Err.ensures.trace
+    subst (λ a. IsTrace g.D.Device.makes (if_ok a (entry_calls v.count x v.medium.calls_left) []) c.args.self.now.device c.enter.new.device) (sym passed) c.in-Err.ensures.trace
 
 pub returns-in_err-check-clause-cut : goal.returns-in_err-check-clause-cut
 returns-in_err-check-clause-cut g c =

@@ -48,9 +48,9 @@ returns-in-Ok-clause-trace g c =
     let m = g.D.Device.medium c.args.device in
     let e = c.in-Ok.ensures in
     let spent = header-spends _ _ c.in-Ok.pairs m e.answer in
-    let left : (g.D.Device.medium c.read_header.new.device).left ≡ m.left - 1 = ap (λ (d : Medium). d.left) (e.after ∙ spent.1) in
+    let left : (g.D.Device.medium c.read_header.new.device).calls_left ≡ m.calls_left - 1 = ap (λ (d : Medium). d.calls_left) (e.after ∙ spent.1) in
     opening-traced g.D.Device.makes h m (view g.D.Device.medium c.recovered.result) _ _ (returns-in-Ok-clause-opened g c)
-    (header-then g.D.Device.makes m.left _ _ _ _ spent.0 e.trace (rw left at c.recovered.ensures.trace))
+    (header-then g.D.Device.makes m.calls_left _ _ _ _ spent.0 e.trace (rw left at c.recovered.ensures.trace))
 
 pub returns-in-Err-clause-trace : goal.returns-in-Err-clause-trace
 returns-in-Err-clause-trace g c =
@@ -58,4 +58,4 @@ returns-in-Err-clause-trace g c =
     let e = c.in-Err.ensures in
     opening-traced g.D.Device.makes (rulebook g.R.Book.book_kind g.C.Book.book_kind) m (refused_as c.in-Err.fault (g.D.Device.medium c.read_header.new.device)) _ _
     (sym c.refused.ensures.refused ∙ returns-in-Err-clause-opened g c)
-    (rw c.refused.ensures.device (header-read g.D.Device.makes m.left c.in-Err.fault (header-unnamed _ _ m c.in-Err.fault e.answer) e.trace))
+    (rw c.refused.ensures.device (header-read g.D.Device.makes m.calls_left c.in-Err.fault (header-unnamed _ _ m c.in-Err.fault e.answer) e.trace))
