@@ -7,7 +7,7 @@ use Rattle.book.specs.declared.Holding.{Holding}
 use Rattle.book.specs.Rulings.{holding_of}
 use Rattle.rulebook.specs.Terms.{Side, securities, cash}
 use Rattle.rulebook.specs.Rules.{Rulebook, Standing, step}
-use Rattle.rulebook.specs.Law.{Given}
+use Rattle.rulebook.specs.Law.{FollowsRules}
 use Rattle.check_trials.specs.declared.Settlement.{Settlement}
 use Rattle.check_trials.specs.ByHand.{trade_7, after_all, EightAmounts, eight_amounts, AnsweredByHand}
 
@@ -42,7 +42,7 @@ answered-by-hand = record {
 }
 
 -- where an instruction leads from a standing that is known
-pub led : {h : Rulebook} {s t u : Standing} {x y : Instruction} → Given h s t x → s ≡ u → x ≡ y → t ≡ step h u y
+pub led : {h : Rulebook} {s t u : Standing} {x y : Instruction} → FollowsRules h s t x → s ≡ u → x ≡ y → t ≡ step h u y
 led {h} {s} {t} {u} {x} {y} g e f = g.after ∙ ap (λ s. step h s x) e ∙ ap (λ x. step h u x) f
 
 -- what a question answers after the settlement

@@ -6,7 +6,7 @@ use Rattle.instruction.specs.declared.Instruction.{Instruction}
 use Rattle.balances.specs.Rows.{balances_kind}
 use Rattle.rulebook.specs.Terms.{securities, cash}
 use Rattle.rulebook.specs.Rules.{Rulebook, Standing, empty, answer, step}
-use Rattle.ledger.specs.View.{rulebook}
+use Rattle.ledger.specs.View.{rulebook_of}
 use Rattle.check_trials.specs.declared.Settlement.{Settlement}
 
 -- an instruction by kind, account, counterparty, item, currency, trade, quantity and amount
@@ -24,7 +24,7 @@ order k a b i c t q m = record {
 
 -- balances as the register and as the cash book
 abbrev pub two_balances : Rulebook
-two_balances = rulebook balances_kind balances_kind
+two_balances = rulebook_of balances_kind balances_kind
 
 -- Account 1 has 100 of item 3, and account 2 has 5,000 of currency 4. In trade 7 the first sells all
 -- of the item to the second for 2,000 of the currency; the trade is earmarked, funded and settled.

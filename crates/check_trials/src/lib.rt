@@ -84,7 +84,7 @@ fn same_parties() -> u8
         amount: 5000,
         ..Instruction::of_kind(Kind::Enter)
     };
-    fault_number(ledger.judge(&x))
+    fault_number(ledger.answer_to(&x))
 }
 
 // Account 1 sells 100 of item 3 to account 2 for 2,000 of currency 4: from the Issue and the Pay in to

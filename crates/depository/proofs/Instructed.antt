@@ -5,7 +5,7 @@ use Rattle.refusals.specs.Faults.{in_entry}
 use Rattle.instruction.specs.declared.Instruction.{Instruction}
 use Rattle.instruction.specs.Layout.{Fit}
 use Rattle.instruction.specs.Kinds.{kind_at}
-use Rattle.rulebook.specs.Rules.{Rulebook, Standing, Runs, more, answer, about, effect, names_trade}
+use Rattle.rulebook.specs.Rules.{Rulebook, Standing, Runs, more, answer, fault_about, effect, names_trade}
 use Rattle.device.specs.Calls.{Answer, and_then}
 use Rattle.journal.specs.Journal.{Layout, Journal, Entered, enter_answer}
 use Rattle.journal.specs.Blocks.{record_bytes, mark_bytes, record_in, read_in}
@@ -87,7 +87,7 @@ module _ (h : Rulebook) (pairs : ℕ) (few : pairs ≤ 32767) (t : Tally) (x : I
       let p = let-pass (sym ec) in
       let i = idle p k in
       let cut = enter-cut v.medium v.count f ew in
-      let is13-still : is13 (about x (in_entry v.count f)).refusal ≡ true = ap is13 (about-refusal-as (names_trade (kind_at x.kind)) (in_entry v.count f) x.trade) ∙ cut.0 in
+      let is13-still : is13 (fault_about x (in_entry v.count f)).refusal ≡ true = ap is13 (about-refusal-as (names_trade (kind_at x.kind)) (in_entry v.count f) x.trade) ∙ cut.0 in
       let held : fed_instruction t x r ≡ record { list = t.list; hand = Some x } = ap (fed_instruction t x) er ∙ ap (λ b. cond b (record { list = t.list; hand = Some x }) t) is13-still in
       let now : KeptBy h pairs (record { list = t.list; hand = Some x }) v' l (Down x) = (refl, in-hand p i.0 i.1 cut.1 a) in
       subst (λ u. KeptBy h pairs u v' l v'.mode) (sym held) (subst (λ m. KeptBy h pairs (record { list = t.list; hand = Some x }) v' l m) (sym a.mode) now)

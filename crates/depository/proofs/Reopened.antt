@@ -164,7 +164,7 @@ module _ (h : Rulebook) (pairs : ℕ) (t : Tally) where
   says-refused l v (Down x) s f e = absurd s
   says-refused l v (Refused g) s f e = let q : g ≡ f = cc in subst (λ (u : Fault). number_of u.refusal ≡ 13) q s
 
-  pub reopened : (m : Medium) (l : Option Contents) → Paired pairs → (h.kind securities).code < 256 → (h.kind cash).code < 256 → IsBounded m → OnDevice h pairs t m → Matches l t → Reopened m l (opened h m)
+  pub reopened : (m : Medium) (l : Option Contents) → Paired pairs → (h.book_kind securities).code < 256 → (h.book_kind cash).code < 256 → IsBounded m → OnDevice h pairs t m → Matches l t → Reopened m l (opened h m)
   reopened m l p c₁ c₂ b k ml =
       let v = opened h m in
       let o = opens h pairs m t.list t.hand v p.some p.few k.size c₁ c₂ b k.journal k.lawful refl in

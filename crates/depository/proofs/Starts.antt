@@ -6,7 +6,7 @@ use Rattle.refusals.specs.Faults.{plain}
 use Rattle.book.specs.Holdings.{Holdings}
 use Rattle.rulebook.specs.Terms.{Side, securities, cash}
 use Rattle.rulebook.specs.Rules.{Rulebook, empty, start}
-use Rattle.rulebook.proofs.Meanings.{last-words}
+use Rattle.rulebook.proofs.Meanings.{lasts-are-unique}
 use Rattle.device.specs.Medium.{Medium, IsBounded}
 use Rattle.device.specs.Calls.{Answer}
 use Rattle.device.specs.Traces.{DeviceCall, writing, syncing, IsTrace}
@@ -40,11 +40,11 @@ room : (pairs size : ℕ) → no_room pairs size ≡ false → Room pairs size
 room pairs size e = record { paired = record { some = grind arith; few = grind arith }; within = grind arith }
 
 -- the header that a format writes for the kinds that the books answer
-same-header : (h : Rulebook) (a b pairs : ℕ) → a ≡ (h.kind securities).code → b ≡ (h.kind cash).code → format_header a b pairs ≡ header_for h pairs
+same-header : (h : Rulebook) (a b pairs : ℕ) → a ≡ (h.book_kind securities).code → b ≡ (h.book_kind cash).code → format_header a b pairs ≡ header_for h pairs
 same-header h a b pairs ea eb = λ i. record { register = ea i; cash = eb i; pairs = pairs }
 
 -- a device d, and what a format by the kinds that the books answered made of it
-module _ {D : Type 0} (makes : D → DeviceCall → D → Type 0) (means : D → Medium) (h : Rulebook) (pairs : ℕ) (d e : D) (a b : ℕ) (ea : a ≡ (h.kind securities).code) (eb : b ≡ (h.kind cash).code)
+module _ {D : Type 0} (makes : D → DeviceCall → D → Type 0) (means : D → Medium) (h : Rulebook) (pairs : ℕ) (d e : D) (a b : ℕ) (ea : a ≡ (h.book_kind securities).code) (eb : b ≡ (h.book_kind cash).code)
     (r : Answer) (is : r ≡ format_answer pairs (means d))
     (after : no_room pairs (means d).size ≡ false → Formatted (header_bytes (format_header a b pairs)) pairs (means d) (means e))
     (trace : IsTrace makes (format_calls (header_bytes (format_header a b pairs)) pairs (means d).size (means d).calls_left) d e) where
@@ -64,7 +64,7 @@ module _ {D : Type 0} (makes : D → DeviceCall → D → Type 0) (means : D →
 format-calls : (pairs : ℕ) (m : Medium) → format_answer pairs m ≡ Ok tt → pairs + 4 < m.calls_left
 format-calls pairs m e = grind (arith, e)
 
-module _ {D : Type 0} (makes : D → DeviceCall → D → Type 0) (means : D → Medium) (h : Rulebook) (most pairs : ℕ) (d : D) (books : Side → Holdings) (c₁ : (h.kind securities).code < 256) (c₂ : (h.kind cash).code < 256) (bounds : (x : D) → IsBounded (means x)) where
+module _ {D : Type 0} (makes : D → DeviceCall → D → Type 0) (means : D → Medium) (h : Rulebook) (most pairs : ℕ) (d : D) (books : Side → Holdings) (c₁ : (h.book_kind securities).code < 256) (c₂ : (h.book_kind cash).code < 256) (bounds : (x : D) → IsBounded (means x)) where
   module _ (e : D) (f : AfterFormat makes means h pairs d (Ok tt) e) where
     roomy : no_room pairs (means d).size ≡ false
     roomy = has-room pairs (means d) f.format
@@ -88,5 +88,5 @@ module _ {D : Type 0} (makes : D → DeviceCall → D → Type 0) (means : D →
     run = record { device = e; formatted = after; path = subst (λ a. Path makes means h most a e cs rs z f) en path };
     law = λ cs rs b f run. law h most pairs (paired run.device run.formatted) c₁ c₂ makes means bounds (kept run.device run.formatted) refl run.path;
     beyond = λ cs rs b f run. beyond h most pairs (paired run.device run.formatted) c₁ c₂ makes means bounds (kept run.device run.formatted) refl run.path;
-    words = last-words;
+    words = lasts-are-unique;
   }

@@ -99,7 +99,7 @@ module _ (h : Rulebook) (most : ℕ) where
       subst (λ u. Owes u b.phase b.owed) (or-or (last_closing q) (closing_told a.phase c) told)
       (owes-along (option_or (closing_told a.phase c) told) q (owes-next told a.phase a.owed c r m s.does o))
 
-module _ (h : Rulebook) (most pairs : ℕ) (p : Paired pairs) (c₁ : (h.kind securities).code < 256) (c₂ : (h.kind cash).code < 256) where
+module _ (h : Rulebook) (most pairs : ℕ) (p : Paired pairs) (c₁ : (h.book_kind securities).code < 256) (c₂ : (h.book_kind cash).code < 256) where
   by-leads : (t : Tally) (c : Order) {r r₀ : Reply} {b b₀ : Moment} → Leads r r₀ b b₀ → Kept h pairs (feed t c r₀) b₀ → Kept h pairs (feed t c r) b
   by-leads t c {r} {r₀} {b} {b₀} e k = subst (λ s. Kept h pairs (feed t c s) b) (sym e.answer) (subst (λ n. Kept h pairs (feed t c r₀) n) (sym e.leads) k)
 

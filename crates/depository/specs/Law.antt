@@ -8,8 +8,8 @@ use Rattle.instruction.specs.declared.Instruction.{Instruction}
 use Rattle.book.specs.Holdings.{Holdings}
 use Rattle.rulebook.specs.Terms.{Side}
 use Rattle.rulebook.specs.Rules.{Rulebook, Runs}
-use Rattle.rulebook.specs.Law.{SaidBy}
-use Rattle.rulebook.specs.Words.{LastWords}
+use Rattle.rulebook.specs.Law.{Determines}
+use Rattle.rulebook.specs.Words.{LastsAreUnique}
 use Rattle.device.specs.Medium.{Medium}
 use Rattle.device.specs.Calls.{Answer}
 use Rattle.device.specs.Traces.{DeviceCall, IsTrace}
@@ -48,7 +48,7 @@ pub record Stands (h : Rulebook) (xs : List Instruction) (v : View) : Type 0 whe
   -- no record here is one that says nothing: the rules would not accept what is listed for it
   pub list : listed v.medium v.count ≡ xs
   pub runs : Runs h xs v.standing
-  pub said : SaidBy xs v.standing
+  pub said : Determines xs v.standing
 
 -- What the answer o of an open, and the engine v that it gave, say of the last closing before it whose
 -- slip is known. `told` is what that slip tells, or None where there was no such closing.
@@ -142,7 +142,7 @@ module _ {D : Type 0} (makes : D → DeviceCall → D → Type 0) (means : D →
       pub beyond : (cs' : List Order) (rs' : List Reply) (b' : Moment) (e' : D)
           → Run cs' rs' b' e' → Beyond h most pairs cs' rs' b'
       -- every list has one last instruction of a trade, and one last Enter, or none
-      pub words : LastWords
+      pub words : LastsAreUnique
 
   -- No calls were given, and the depository is as it was made: the format was refused; or there was
   -- no room for the answers, and nothing was done.

@@ -2,7 +2,7 @@
 use Rattle.std.specs.Prelude.{Option}
 use Rattle.rulebook.specs.Terms.{Side}
 use Rattle.book.specs.Holdings.{Holdings}
-use Rattle.ledger.specs.View.{by_side}
+use Rattle.ledger.specs.View.{both_sides}
 use Rattle.device.specs.Medium.{Medium}
 use Rattle.device.specs.declared.Device as device
 use Rattle.device.specs.declared.PoweredDevice as powered
@@ -31,7 +31,7 @@ module _ {D R C : Type 0} {d : device.Ghosts D} {r : book.Ghosts R} {c : book.Gh
   abbrev pub phase_of : Condition D R C d r c → Phase
   phase_of (Running e) = running (view d.medium e)
   phase_of (Shut device register cash) =
-      shut (d.medium device) (by_side (r.holdings register) (c.holdings cash))
+      shut (d.medium device) (both_sides (r.holdings register) (c.holdings cash))
 
   abbrev pub moment_of : {p : powered.Ghosts D} → Depository D R C p d r c → Moment
   moment_of h = at (phase_of h.condition) (owed_contents h.owed)

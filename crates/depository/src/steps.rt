@@ -2,7 +2,7 @@
 // and out again. A call that does not fit leaves it as it is.
 ghost use Rattle.std.specs.Prelude.{◌≡◌};
 ghost use Rattle.instruction.specs.Layout.{Fit};
-ghost use Rattle.ledger.specs.View.{rulebook};
+ghost use Rattle.ledger.specs.View.{rulebook_of};
 ghost use Rattle.engine.specs.View.{view};
 ghost use Rattle.depository.specs.Orders.{to_instruct, to_close, to_restart, to_open, to_ask, order};
 ghost use Rattle.depository.specs.Moments.{moment_of};
@@ -24,7 +24,7 @@ fn told<D: Device, R: Book, C: Book>(
     engine: &Engine<D, R, C>,
     question: &Question,
 ) -> Result<Fact, Refusal>
-    ensures { result ≡ told (rulebook R.book_kind C.book_kind) (view D.medium engine.now) question.now }
+    ensures { result ≡ told (rulebook_of R.book_kind C.book_kind) (view D.medium engine.now) question.now }
 {
     let fact = match *question {
         Question::Securities { account, item } => Fact::Holding(engine.securities(account, item)?),
@@ -41,9 +41,9 @@ impl<D: PoweredDevice, R: Book, C: Book> Depository<D, R, C> {
     // from a call would not know it.
     pub(crate) fn instruct(&mut self, x: Instruction) -> Reply
         ensures fit { Fit x }
-        ensures does { Does (rulebook R.book_kind C.book_kind) D.PoweredDevice.most_calls
+        ensures does { Does (rulebook_of R.book_kind C.book_kind) D.PoweredDevice.most_calls
             (moment_of self.old) (to_instruct x) result (moment_of self.new) }
-        ensures device { Handled D.makes (rulebook R.book_kind C.book_kind) (moment_of self.old).phase
+        ensures device { Handled D.makes (rulebook_of R.book_kind C.book_kind) (moment_of self.old).phase
             (to_instruct x) (device_of self.old.condition) (device_of self.new.condition) }
     {
         match &mut self.condition {
@@ -53,9 +53,9 @@ impl<D: PoweredDevice, R: Book, C: Book> Depository<D, R, C> {
     }
 
     fn close(self) -> (Self, Reply)
-        ensures does { Does (rulebook R.book_kind C.book_kind) D.PoweredDevice.most_calls
+        ensures does { Does (rulebook_of R.book_kind C.book_kind) D.PoweredDevice.most_calls
             (moment_of self) to_close result.1 (moment_of result.0) }
-        ensures device { Handled D.makes (rulebook R.book_kind C.book_kind) (moment_of self).phase to_close
+        ensures device { Handled D.makes (rulebook_of R.book_kind C.book_kind) (moment_of self).phase to_close
             (device_of self.condition) (device_of result.0.condition) }
     {
         let Depository { condition, owed } = self;
@@ -71,9 +71,9 @@ impl<D: PoweredDevice, R: Book, C: Book> Depository<D, R, C> {
     }
 
     pub(crate) fn restart(&mut self, calls: u32, remains: &[u8]) -> Reply
-        ensures does { Does (rulebook R.book_kind C.book_kind) D.PoweredDevice.most_calls
+        ensures does { Does (rulebook_of R.book_kind C.book_kind) D.PoweredDevice.most_calls
             (moment_of self.old) (to_restart calls remains.now) result (moment_of self.new) }
-        ensures device { Handled D.makes (rulebook R.book_kind C.book_kind) (moment_of self.old).phase
+        ensures device { Handled D.makes (rulebook_of R.book_kind C.book_kind) (moment_of self.old).phase
             (to_restart calls remains.now)
             (device_of self.old.condition) (device_of self.new.condition) }
     {
@@ -87,9 +87,9 @@ impl<D: PoweredDevice, R: Book, C: Book> Depository<D, R, C> {
     }
 
     fn open(self) -> (Self, Reply)
-        ensures does { Does (rulebook R.book_kind C.book_kind) D.PoweredDevice.most_calls
+        ensures does { Does (rulebook_of R.book_kind C.book_kind) D.PoweredDevice.most_calls
             (moment_of self) to_open result.1 (moment_of result.0) }
-        ensures device { Handled D.makes (rulebook R.book_kind C.book_kind) (moment_of self).phase to_open
+        ensures device { Handled D.makes (rulebook_of R.book_kind C.book_kind) (moment_of self).phase to_open
             (device_of self.condition) (device_of result.0.condition) }
     {
         let Depository { condition, owed } = self;
@@ -113,7 +113,7 @@ impl<D: PoweredDevice, R: Book, C: Book> Depository<D, R, C> {
 
     // A question moves nothing.
     pub(crate) fn ask(&self, question: &Question) -> Reply
-        ensures { Does (rulebook R.book_kind C.book_kind) D.PoweredDevice.most_calls
+        ensures { Does (rulebook_of R.book_kind C.book_kind) D.PoweredDevice.most_calls
             (moment_of self.now) (to_ask question.now) result (moment_of self.now) }
     {
         match &self.condition {
@@ -125,9 +125,9 @@ impl<D: PoweredDevice, R: Book, C: Book> Depository<D, R, C> {
     // Gives one call, and answers it.
     pub(crate) fn give(mut self, call: &Call<'_>) -> (Self, Reply)
         ensures fit { (x : Instruction) → order call.now ≡ to_instruct x → Fit x }
-        ensures does { Does (rulebook R.book_kind C.book_kind) D.PoweredDevice.most_calls
+        ensures does { Does (rulebook_of R.book_kind C.book_kind) D.PoweredDevice.most_calls
             (moment_of self) (order call.now) result.1 (moment_of result.0) }
-        ensures device { Handled D.makes (rulebook R.book_kind C.book_kind) (moment_of self).phase
+        ensures device { Handled D.makes (rulebook_of R.book_kind C.book_kind) (moment_of self).phase
             (order call.now) (device_of self.condition) (device_of result.0.condition) }
     {
         match call {

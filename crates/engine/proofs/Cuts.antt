@@ -13,7 +13,7 @@ use Rattle.book.specs.Rulings.{Check, first_refusal}
 use Rattle.rulebook.specs.declared.State.{State}
 use Rattle.rulebook.specs.declared.Terms.{Terms}
 use Rattle.rulebook.specs.Table.{Act}
-use Rattle.rulebook.specs.Rules.{Rulebook, Standing, answer, about, fault_of, with_trade, all_checks, verdict, names_trade}
+use Rattle.rulebook.specs.Rules.{Rulebook, Standing, answer, fault_about, fault_of, with_trade, all_checks, fault_answer, names_trade}
 use Rattle.device.specs.Medium.{Medium}
 use Rattle.device.specs.Calls.{Answer, and_then}
 use Rattle.journal.specs.Journal.{record_at, mark_at, enter_answer}
@@ -67,7 +67,7 @@ told-calm x (Err r) f n e =
     let q : fault_of x r ≡ f = cc in
     subst (λ g. is13 g.refusal ≡ false) q (ap is13 (fault-refusal x r) ∙ n r refl)
 
-pub verdict-calm : (h : Rulebook) (s : Standing) (x : Instruction) (f : Fault) → verdict h s x ≡ Err f → is13 f.refusal ≡ false
+pub verdict-calm : (h : Rulebook) (s : Standing) (x : Instruction) (f : Fault) → fault_answer h s x ≡ Err f → is13 f.refusal ≡ false
 verdict-calm h s x f e =
     let k = kind_at x.kind in
     told-calm x (answer h s x) f (λ r q. calm-first (all_checks h k (s.state x.trade) (s.terms x.trade) s x) r (calm-rules h k (s.state x.trade) (s.terms x.trade) s x) q) e
@@ -90,7 +90,7 @@ ready-calm (Refused g) x a f p e = let q : fault_of x OpeningRefused ≡ f = cc 
 
 -- no check of an instruction is answered 13
 pub checked-calm : (h : Rulebook) (x : Instruction) (v : View) (f : Fault) → checked h x v ≡ Err f → is13 f.refusal ≡ false
-checked-calm h x v f e = ready-calm v.mode x (and_then (verdict h v.standing x) (room_for x v)) f (λ g q. then-calm (verdict h v.standing x) (room_for x v) g (verdict-calm h v.standing x) (room-calm x v) q) e
+checked-calm h x v f e = ready-calm v.mode x (and_then (fault_answer h v.standing x) (room_for x v)) f (λ g q. then-calm (fault_answer h v.standing x) (room_for x v) g (verdict-calm h v.standing x) (room-calm x v) q) e
 
 -- the four calls of an entry stop with 13, where fewer than four are left
 pub enter-cut : (m : Medium) (k : ℕ) (f : Fault) → enter_answer m k ≡ Err f → (is13 f.refusal ≡ true) × (m.calls_left < 4)
@@ -102,7 +102,7 @@ enter-done m k e = grind (arith, e)
 -- what the checks ask for is all that they ask for
 pub passes : {h : Rulebook} {x : Instruction} {v : View} → Passes h x v → checked h x v ≡ Ok tt
 passes {h} {x} {v} p =
-    ap (λ (m : Mode). ready m x (and_then (verdict h v.standing x) (room_for x v))) p.mode
+    ap (λ (m : Mode). ready m x (and_then (fault_answer h v.standing x) (room_for x v))) p.mode
     ∙ ap (λ r. and_then (with_trade x r) (room_for x v)) p.accepted
     ∙ cond-false (leb v.pairs v.count) _ _ (lt-leb v.pairs v.count p.room)
 
@@ -139,8 +139,8 @@ ready-says (Refused g) x a f p e = says-so x OpeningRefused f e
 
 checked-says : (h : Rulebook) (x : Instruction) (v : View) (f : Fault) → checked h x v ≡ Err f → IsFaultOf x None None f
 checked-says h x v f e =
-    ready-says v.mode x (and_then (verdict h v.standing x) (room_for x v)) f
-    (λ q. then-says x (verdict h v.standing x) (room_for x v) f (told-says x (answer h v.standing x) f) (room-says (leb v.pairs v.count) x f) q) e
+    ready-says v.mode x (and_then (fault_answer h v.standing x) (room_for x v)) f
+    (λ q. then-says x (fault_answer h v.standing x) (room_for x v) f (told-says x (answer h v.standing x) f) (room-says (leb v.pairs v.count) x f) q) e
 
 -- the answer to the calls of an entry, by the calls left
 abbrev answer_by : ℕ → ℕ → Answer
@@ -162,7 +162,7 @@ cut-says (suc (suc zero)) k f l e = says-as 2 k (at_block NoCalls (mark_at k)) f
 cut-says (suc (suc (suc zero))) k f l e = says-as 3 k (plain NoCalls) f e (record { block = refl; trade = refl; rule = refl })
 cut-says (suc (suc (suc (suc n)))) k f l e = absurd (omega arith)
 
-within-says : (n k : ℕ) (x : Instruction) (g : Fault) → CutSays n k g → IsFaultOf x (cut_at k n) (Some k) (about x (in_entry k g))
+within-says : (n k : ℕ) (x : Instruction) (g : Fault) → CutSays n k g → IsFaultOf x (cut_at k n) (Some k) (fault_about x (in_entry k g))
 within-says n k x g s =
     let i = said-of x (Some k) (in_entry k g) (names_trade (kind_at x.kind)) (names-by-kind x.kind) refl s.trade s.rule in
     record { block = i.block ∙ s.block; entry = i.entry; trade = i.trade; rule = i.rule }
@@ -172,7 +172,7 @@ none-is-13 e = omega arith
 
 module _ (h : Rulebook) (x : Instruction) (v v' : View) where
   -- the writing was cut short
-  pub cut-down : Passes h x v → {f : Fault} → enter_answer v.medium v.count ≡ Err f → {r : Answer} → r ≡ Err (about x (in_entry v.count f)) → v'.mode ≡ Down x → CutShort h x v v' r
+  pub cut-down : Passes h x v → {f : Fault} → enter_answer v.medium v.count ≡ Err f → {r : Answer} → r ≡ Err (fault_about x (in_entry v.count f)) → v'.mode ≡ Down x → CutShort h x v v' r
   cut-down p {f} ew {r} er down =
       let cut = enter-cut v.medium v.count f ew in
       let is : fault_number r ≡ 13 = ap fault_number er ∙ ap number_of (about-refusal-as (names_trade (kind_at x.kind)) (in_entry v.count f) x.trade) ∙ eqb-true (number_of f.refusal) 13 cut.0 in
@@ -181,7 +181,7 @@ module _ (h : Rulebook) (x : Instruction) (v v' : View) where
         always = λ q l. is;
         hand = λ e. down;
         cut = λ g eg n.
-            subst (λ y. IsFaultOf x (cut_at v.count v.medium.calls_left) (Some v.count) y) (same-fault (about x (in_entry v.count f)) g (sym er ∙ eg))
+            subst (λ y. IsFaultOf x (cut_at v.count v.medium.calls_left) (Some v.count) y) (same-fault (fault_about x (in_entry v.count f)) g (sym er ∙ eg))
             (within-says v.medium.calls_left v.count x f (cut-says v.medium.calls_left v.count f cut.1 ew));
         check = λ g eg n. absurd (n (ap fault_number (sym eg) ∙ is));
       }

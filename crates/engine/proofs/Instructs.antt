@@ -2,7 +2,7 @@
 use Rattle.std.proofs.Common.{◌≡◌, ◌<◌, Ok, Err, sym, refl, arith}
 use Rattle.refusals.specs.declared.Fault.{Fault}
 use Rattle.instruction.specs.declared.Instruction.{Instruction}
-use Rattle.rulebook.specs.Rules.{Rulebook, answer, verdict}
+use Rattle.rulebook.specs.Rules.{Rulebook, answer, fault_answer}
 use Rattle.ledger.proofs.Carried.{accepts}
 use Rattle.device.specs.Calls.{Answer, and_then}
 use Rattle.device.proofs.Answered.{then-passed}
@@ -30,8 +30,8 @@ room-passes x v e = grind arith
 
 pub let-pass : {h : Rulebook} {x : Instruction} {v : View} → Ok tt ≡ checked h x v → LetPass h x v
 let-pass {h} {x} {v} e =
-    let p = ready-passes v.mode x (and_then (verdict h v.standing x) (room_for x v)) e in
-    let q = then-passed (verdict h v.standing x) (room_for x v) p.1 in
+    let p = ready-passes v.mode x (and_then (fault_answer h v.standing x) (room_for x v)) e in
+    let q = then-passed (fault_answer h v.standing x) (room_for x v) p.1 in
     record { mode = p.0; accepted = accepts x (answer h v.standing x) q.0; room = room-passes x v q.1 }
 
 -- an instruction that was let pass, and written and carried out

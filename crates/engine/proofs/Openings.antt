@@ -128,10 +128,10 @@ module _ (h : Rulebook) (pairs : ℕ) where
 
   module _ (m : Medium) (some : 0 < pairs) (few : pairs ≤ 32767) (within : 1 + 2 * pairs ≤ m.size) where
     abbrev register : ℕ
-    register = (h.kind securities).code
+    register = (h.book_kind securities).code
 
     abbrev money : ℕ
-    money = (h.kind cash).code
+    money = (h.book_kind cash).code
 
     sized : leb m.size 0 ≡ false
     sized = lt-leb m.size 0 (omega arith)
@@ -179,7 +179,7 @@ module _ (h : Rulebook) (pairs : ℕ) where
 
   -- What an opening finds on a device that keeps a list: that list, with or without what was in hand.
   pub opens : (m : Medium) (xs : List Instruction) (hand : Option Instruction) (v : View) → 0 < pairs → pairs ≤ 32767 → 1 + 2 * pairs ≤ m.size
-      → (h.kind securities).code < 256 → (h.kind cash).code < 256 → IsBounded m → Journal L m xs hand → Lawful h xs hand → v ≡ opened h m → OpenedOn h pairs m xs hand v
+      → (h.book_kind securities).code < 256 → (h.book_kind cash).code < 256 → IsBounded m → Journal L m xs hand → Lawful h xs hand → v ≡ opened h m → OpenedOn h pairs m xs hand v
   opens m xs hand v some few within r c b j lawful is =
       elim (cases_eq m.calls_left 0) [
         | inl z ↦

@@ -13,5 +13,5 @@ pub scanned : (pairs : ℕ) {m m' : Medium} {s : Standing} {z : Scan} {r : Resul
 scanned pairs e = rw (e.answer, e.device, e.books) refl
 
 -- what an opening gives, from the kinds that the books answer
-pub headed : (h : Rulebook) (m : Medium) {m₁ : Medium} {a b : ℕ} {r : Result ℕ Fault} → a ≡ (h.kind securities).code → b ≡ (h.kind cash).code → m₁ ≡ after_header m → r ≡ header_answer a b m → opened_on h m₁ r ≡ opened h m
+pub headed : (h : Rulebook) (m : Medium) {m₁ : Medium} {a b : ℕ} {r : Result ℕ Fault} → a ≡ (h.book_kind securities).code → b ≡ (h.book_kind cash).code → m₁ ≡ after_header m → r ≡ header_answer a b m → opened_on h m₁ r ≡ opened h m
 headed h m ea eb em er = rw (em, er, ea, eb) refl

@@ -5,7 +5,7 @@ use Rattle.std.proofs.lemmas.List.{take_all}
 use Rattle.refusals.specs.declared.Refusal.{Refusal}
 use Rattle.refusals.specs.declared.Fault.{Fault}
 use Rattle.instruction.specs.declared.Instruction.{Instruction}
-use Rattle.rulebook.specs.Rules.{Rulebook, Standing, verdict}
+use Rattle.rulebook.specs.Rules.{Rulebook, Standing, fault_answer}
 use Rattle.device.specs.Medium.{Medium}
 use Rattle.device.specs.Traces.{DeviceCall, reading, writing, syncing, restarting, IsTrace, only_reads, ReadOnly}
 use Rattle.device.proofs.Traces.{traced-append, traced-on, only_reads-append}
@@ -64,7 +64,7 @@ allowed-names k x (Err g) f e = cc
 
 module _ (h : Rulebook) (s : Standing) (k : ℕ) where
   ruled-names : (r : Result Instruction Fault) (f : Fault) → ((g : Fault) → r ≡ Err g → g.entry ≡ Some k) → ruled h s k r ≡ Err f → f.entry ≡ Some k
-  ruled-names (Ok x) f names e = allowed-names k x (verdict h s x) f e
+  ruled-names (Ok x) f names e = allowed-names k x (fault_answer h s x) f e
   ruled-names (Err g) f names e = names f (cc)
 
   marked-names : (m : Medium) (r : Result Bool Fault) (f : Fault) → ((g : Fault) → r ≡ Err g → g.entry ≡ Some k) → marked h m s k r ≡ Err f → f.entry ≡ Some k

@@ -40,10 +40,10 @@ rule-said k x r false e =
 
 module _ (h : Rulebook) (m : Medium) (b : IsBounded m) (f : Fault) where
   abbrev register : ℕ
-  register = (h.kind securities).code
+  register = (h.book_kind securities).code
 
   abbrev money : ℕ
-  money = (h.kind cash).code
+  money = (h.book_kind cash).code
 
   fitting-refuses : 0 < m.calls_left → (head : Header) → Proper head → m.holds 0 ≡ Some (header_bytes head) → fitting register money m.size head ≡ Err f → HeaderRefused h m f
   fitting-refuses left head proper holds e =

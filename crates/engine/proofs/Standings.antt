@@ -8,7 +8,7 @@ use Rattle.refusals.specs.declared.Fault.{Fault}
 use Rattle.instruction.specs.declared.Instruction.{Instruction}
 use Rattle.instruction.specs.Layout.{Fit}
 use Rattle.rulebook.specs.Terms.{securities, cash}
-use Rattle.rulebook.specs.Rules.{Rulebook, Standing, empty, answer, verdict, effect, Runs, start, more}
+use Rattle.rulebook.specs.Rules.{Rulebook, Standing, empty, answer, fault_answer, effect, Runs, start, more}
 use Rattle.ledger.proofs.Carried.{accepts}
 use Rattle.device.specs.Medium.{Medium, IsBounded}
 use Rattle.device.specs.Calls.{SameBlocks}
@@ -65,10 +65,10 @@ record Heads (h : Rulebook) (m : Medium) (pairs : ℕ) : Type 0 where
 
 module _ (h : Rulebook) (m : Medium) (b : IsBounded m) where
   abbrev register : ℕ
-  register = (h.kind securities).code
+  register = (h.book_kind securities).code
 
   abbrev money : ℕ
-  money = (h.kind cash).code
+  money = (h.book_kind cash).code
 
   heads-read : (pairs : ℕ) (bs : List ℕ) (r : Result Header Refusal) → m.holds 0 ≡ Some bs → header_in bs ≡ r → headed register money m.size r ≡ Ok pairs → Heads h m pairs
   heads-read pairs bs (Err f) holds is e = absurd cc
@@ -143,12 +143,12 @@ module _ (h : Rulebook) (m : Medium) (b : IsBounded m) where
   module _ (k : ℕ) (s : Standing) where
     ruled-so : (x : Instruction) (r : Result Instruction Fault) → ruled h s k r ≡ Ok (Some x) → (r ≡ Ok x) × (answer h s x ≡ Ok tt)
     ruled-so x (Ok y) e =
-        let p = allowed-so k y x (verdict h s y) e in
+        let p = allowed-so k y x (fault_answer h s y) e in
         (ap Ok p.0, subst (λ z. answer h s z ≡ Ok tt) p.0 (accepts y (answer h s y) p.1))
     ruled-so x (Err f) e = absurd cc
 
     ruled-ends : (r : Result Instruction Fault) → ruled h s k r ≡ Ok None → ⊥
-    ruled-ends (Ok y) e = allowed-ends k y (verdict h s y) e
+    ruled-ends (Ok y) e = allowed-ends k y (fault_answer h s y) e
     ruled-ends (Err f) e = absurd cc
 
     marked-so : (on : Medium) (x : Instruction) (r : Result Bool Fault) → marked h on s k r ≡ Ok (Some x) → (r ≡ Ok true) × (record_answer (drained 1 on) k ≡ Ok x) × (answer h s x ≡ Ok tt)
@@ -335,7 +335,7 @@ module _ (h : Rulebook) (m : Medium) (w : View) (f : FoundOn h m w) where
         stop = λ l. subst (λ k. m.holds (mark_at k) ≡ Some (mark_bytes k) → ⊥) (sym n) (f.stop (omega arith));
       }
 
-  promptly : IsBounded m → (h.kind securities).code < 256 → (h.kind cash).code < 256 → 1 + 2 * w.pairs ≤ m.calls_left → (opened h m).mode ≡ Open
+  promptly : IsBounded m → (h.book_kind securities).code < 256 → (h.book_kind cash).code < 256 → 1 + 2 * w.pairs ≤ m.calls_left → (opened h m).mode ≡ Open
   promptly b r c calls =
       let z = scan h w.pairs (drained 1 m) 0 empty None in
       let ends = calls-find h w.pairs m (listed m w.found) w.standing f.entries.fits.few b finds f.entries.list (m.calls_left - 1) in
@@ -365,7 +365,7 @@ after-checked m =
 -- What an opening found on any device, where that is so, and what it leaves of the device.
 module _ (h : Rulebook) (m : Medium) where
   abbrev checks : Result ℕ Fault
-  checks = header_answer (h.kind securities).code (h.kind cash).code m
+  checks = header_answer (h.book_kind securities).code (h.book_kind cash).code m
 
   pub opens-well : {v : View} → v ≡ opened h m → IsBounded m → Opens h m v v.mode
   opens-well {v} is b =
@@ -379,5 +379,5 @@ module _ (h : Rulebook) (m : Medium) where
       let e : v ≡ opened_on h (with_calls a.0 m) checks = is ∙ ap (λ d. opened_on h d checks) a.1 in
       subst (λ u. SameBlocks m u.medium) (sym e) (opened-kept h m a.0 checks)
 
-  pub opens-promptly : {v : View} → v ≡ opened h m → IsBounded m → (h.kind securities).code < 256 → (h.kind cash).code < 256 → Prompt h m v.mode
+  pub opens-promptly : {v : View} → v ≡ opened h m → IsBounded m → (h.book_kind securities).code < 256 → (h.book_kind cash).code < 256 → Prompt h m v.mode
   opens-promptly is b r c w f calls = ap (λ (u : View). u.mode) is ∙ promptly h m w f b r c calls

@@ -4,7 +4,7 @@ use Rattle.refusals.specs.Numbers.{numbered, number_of, fault_number}
 use Rattle.refusals.specs.declared.Fault.{Fault}
 use Rattle.refusals.specs.Faults.{in_entry}
 use Rattle.instruction.specs.declared.Instruction.{Instruction}
-use Rattle.rulebook.specs.Rules.{Rulebook, about, fault_of, answer, verdict, effect}
+use Rattle.rulebook.specs.Rules.{Rulebook, fault_about, fault_of, answer, fault_answer, effect}
 use Rattle.device.specs.Calls.{Answer, and_then}
 use Rattle.journal.specs.Journal.{record_at, mark_at, enter_answer, Entered}
 use Rattle.journal.specs.Blocks.{record_bytes, mark_bytes}
@@ -24,12 +24,12 @@ room_for x v = cond (nat_le v.pairs v.count) (Err (fault_of x (numbered 36))) (O
 
 -- the checks of an instruction in order, before anything is written: the engine, the rules, the room
 abbrev pub checked : Rulebook → Instruction → View → Answer
-checked h x v = ready v.mode x (and_then (verdict h v.standing x) (room_for x v))
+checked h x v = ready v.mode x (and_then (fault_answer h v.standing x) (room_for x v))
 
 -- a fault met within entry k, where x was written
 abbrev pub within_entry : Instruction → ℕ → Answer → Answer
 within_entry x k (Ok u) = Ok tt
-within_entry x k (Err f) = Err (about x (in_entry k f))
+within_entry x k (Err f) = Err (fault_about x (in_entry k f))
 
 abbrev pub instruct_answer : Rulebook → Instruction → View → Answer
 instruct_answer h x v = and_then (checked h x v) (within_entry x v.count (enter_answer v.medium v.count))

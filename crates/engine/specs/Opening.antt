@@ -60,11 +60,11 @@ opened_on h m (Ok pairs) = scanned_on pairs m (scan h pairs m 0 empty None)
 
 -- the engine that an opening of the device gives
 abbrev pub opened : Rulebook → Medium → View
-opened h m = opened_on h (after_header m) (header_answer (h.kind securities).code (h.kind cash).code m)
+opened h m = opened_on h (after_header m) (header_answer (h.book_kind securities).code (h.book_kind cash).code m)
 
 -- the header of a journal for these books, of so many pairs
 abbrev pub header_for : Rulebook → ℕ → Header
-header_for h pairs = header_of (h.kind securities).code (h.kind cash).code pairs
+header_for h pairs = header_of (h.book_kind securities).code (h.book_kind cash).code pairs
 
 -- the last of a list, if any
 abbrev pub last_of : List Instruction → Option Instruction

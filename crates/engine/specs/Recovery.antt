@@ -4,7 +4,7 @@ use Rattle.refusals.specs.declared.Refusal.{Refusal}
 use Rattle.refusals.specs.declared.Fault.{Fault}
 use Rattle.refusals.specs.Faults.{plain, in_entry, of_record, fault_at}
 use Rattle.instruction.specs.declared.Instruction.{Instruction}
-use Rattle.rulebook.specs.Rules.{Rulebook, Standing, verdict, effect}
+use Rattle.rulebook.specs.Rules.{Rulebook, Standing, fault_answer, effect}
 use Rattle.device.specs.Medium.{Medium}
 use Rattle.journal.specs.Journal.{record_at, mark_at}
 use Rattle.journal.specs.Blocks.{is_mark, record_in}
@@ -45,7 +45,7 @@ allowed k x (Ok u) = Ok (Some x)
 allowed k x (Err f) = Err (of_record k f)
 
 abbrev pub ruled : Rulebook → Standing → ℕ → Result Instruction Fault → Result (Option Instruction) Fault
-ruled h s k (Ok x) = allowed k x (verdict h s x)
+ruled h s k (Ok x) = allowed k x (fault_answer h s x)
 ruled h s k (Err f) = Err f
 
 abbrev pub marked : Rulebook → Medium → Standing → ℕ → Result Bool Fault → Result (Option Instruction) Fault

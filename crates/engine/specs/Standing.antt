@@ -62,12 +62,12 @@ pub data HeaderRefused (h : Rulebook) (m : Medium) (f : Fault) : Type 0 where
       → IsFault 43 None None f → HeaderRefused h m f
   -- it is one of books of other kinds
   other-kinds : 0 < m.calls_left → (head : Header) → Proper head → m.holds 0 ≡ Some (header_bytes head)
-      → (head.register ≡ (h.kind securities).code → head.cash ≡ (h.kind cash).code → ⊥)
+      → (head.register ≡ (h.book_kind securities).code → head.cash ≡ (h.book_kind cash).code → ⊥)
       → IsFault 44 None None f → HeaderRefused h m f
   -- it is one of more pairs than the device has blocks for
   too-few-blocks : 0 < m.calls_left → (head : Header) → Proper head
       → m.holds 0 ≡ Some (header_bytes head)
-      → head.register ≡ (h.kind securities).code → head.cash ≡ (h.kind cash).code
+      → head.register ≡ (h.book_kind securities).code → head.cash ≡ (h.book_kind cash).code
       → m.size < 1 + 2 * head.pairs → IsFault 45 None None f → HeaderRefused h m f
 
 -- The fault of entry k, whose instruction x the rules refuse with r. It names the trade where the

@@ -1,7 +1,7 @@
 // Opening: the header, then the entries from the first on, until a mark is not good.
 ghost use Rattle.std.specs.Prelude.{◌≡◌, ℕ, ◌+◌, ◌-◌, ◌*◌, ◌<◌, ◌≤◌, true, false, [], ◌∷◌, take, IfOk, None, Ok};
 ghost use Rattle.rulebook.specs.Rules.{empty};
-ghost use Rattle.ledger.specs.View.{rulebook, standing_of};
+ghost use Rattle.ledger.specs.View.{rulebook_of, standing_of};
 ghost use Rattle.engine.specs.Opening.{header_answer, after_header, Fits, refused_as, opened_on, opened};
 ghost use Rattle.engine.specs.Recovery.{drained, mark_answer, record_answer, entry_answer, spent_by, leads_to, scan, Scanned};
 ghost use Rattle.engine.specs.Standing.{Opens, Prompt};
@@ -63,7 +63,7 @@ fn replay_entry<D: Device, R: Book, C: Book>(
 ) -> Result<Option<Instruction>, Fault>
     requires small { entry < 32767 }
     requires within { 2 + 2 * entry < (D.medium device.old).size }
-    ensures answer { result ≡ entry_answer (rulebook R.book_kind C.book_kind)
+    ensures answer { result ≡ entry_answer (rulebook_of R.book_kind C.book_kind)
         (D.medium device.old) (standing_of ledger.old) entry }
     ensures after { D.medium device.new ≡ drained (spent_by result) (D.medium device.old) }
     ensures trace { let left = (D.medium device.old).calls_left in
@@ -87,7 +87,7 @@ fn replay<D: Device, R: Book, C: Book>(
     requires few { pairs ≤ 32767 }
     requires within { 1 + 2 * pairs ≤ (D.medium device.old).size }
     ensures scanned { Scanned
-        (scan (rulebook R.book_kind C.book_kind) pairs (D.medium device.old) 0 (standing_of ledger.old) None)
+        (scan (rulebook_of R.book_kind C.book_kind) pairs (D.medium device.old) 0 (standing_of ledger.old) None)
         (D.medium device.old) (D.medium device.new) (standing_of ledger.new) result }
     ensures within { IfOk result (λ found. found.count ≤ pairs) }
     ensures trace { let left = (D.medium device.old).calls_left in
@@ -131,12 +131,12 @@ fn read_header<D: Device>(device: &mut D, register: u8, cash: u8) -> Result<u32,
 impl<D: Device, R: Book, C: Book> Engine<D, R, C> {
     // Moves the device and the books in, and always gives an engine, which keeps the opening's answer.
     pub fn open(mut device: D, register: R, cash: C) -> Self
-        ensures opened { view D.medium result ≡ opened (rulebook R.book_kind C.book_kind) (D.medium device) }
+        ensures opened { view D.medium result ≡ opened (rulebook_of R.book_kind C.book_kind) (D.medium device) }
         ensures found { let v = view D.medium result in
-            Opens (rulebook R.book_kind C.book_kind) (D.medium device) v v.mode }
-        ensures prompt { Prompt (rulebook R.book_kind C.book_kind) (D.medium device) (view D.medium result).mode }
+            Opens (rulebook_of R.book_kind C.book_kind) (D.medium device) v v.mode }
+        ensures prompt { Prompt (rulebook_of R.book_kind C.book_kind) (D.medium device) (view D.medium result).mode }
         ensures kept { SameBlocks (D.medium device) (D.medium result.device) }
-        ensures trace { let h = rulebook R.book_kind C.book_kind in
+        ensures trace { let h = rulebook_of R.book_kind C.book_kind in
             IsTrace D.makes (opening_calls h (D.medium device)) device result.device }
     {
         let register_kind = register.kind();
@@ -153,7 +153,7 @@ impl<D: Device, R: Book, C: Book> Engine<D, R, C> {
         requires fits { Fits pairs (D.medium device) }
         requires empty { standing_of ledger ≡ empty }
         ensures opened { view D.medium result
-            ≡ opened_on (rulebook R.book_kind C.book_kind) (D.medium device) (Ok pairs) }
+            ≡ opened_on (rulebook_of R.book_kind C.book_kind) (D.medium device) (Ok pairs) }
         ensures trace { let left = (D.medium device).calls_left in let v = view D.medium result in
             IsTrace D.makes (take (left + 1) (opened_reads v.mode v)) device result.device }
     {

@@ -4,7 +4,7 @@ use Rattle.std.proofs.lemmas.List.{length-replicate}
 use Rattle.refusals.specs.declared.Refusal.TheVariants.{InputTooLong}
 use Rattle.refusals.specs.declared.Fault.{Fault}
 use Rattle.book.specs.Holdings.{Holdings, nothing}
-use Rattle.ledger.specs.View.{by_side}
+use Rattle.ledger.specs.View.{both_sides}
 use Rattle.simulated.specs.declared.state.Simulated.{Simulated}
 use Rattle.simulated.specs.Meaning.{image_of, meaning, meaning_of, state_of, Makes}
 use Rattle.simulated.proofs.Kind.{fixed}
@@ -31,10 +31,10 @@ formats : (d : Simulated) → IsNew d → format_answer 63 (meaning d) ≡ Ok tt
 formats d n = formats-on (image_of d) d.rows.calls_left (ap length n.image ∙ zeros-count 65278) n.calls
 
 pub prints-key : (d : Simulated) (r c : Holdings) (script : List ℕ) (answers shown : List Answer) (text : List ℕ) → IsNew d → r ≡ nothing → c ≡ nothing
-    → Keyed Makes meaning two_balances 4294967295 63 d (by_side r c) script answers → shown ≡ answers → text ≡ key_text 1 shown → Printed script text
+    → Keyed Makes meaning two_balances 4294967295 63 d (both_sides r c) script answers → shown ≡ answers → text ≡ key_text 1 shown → Printed script text
 prints-key d r c script answers shown text n er ec k es et =
-    let no-register = subst (λ z. Keyed Makes meaning two_balances 4294967295 63 d (by_side z c) script answers) er k in
-    let empty = subst (λ z. Keyed Makes meaning two_balances 4294967295 63 d (by_side nothing z) script answers) ec no-register in
+    let no-register = subst (λ z. Keyed Makes meaning two_balances 4294967295 63 d (both_sides z c) script answers) er k in
+    let empty = subst (λ z. Keyed Makes meaning two_balances 4294967295 63 d (both_sides nothing z) script answers) ec no-register in
     inl (record { device = d; new = n; answers = answers; keyed = empty; whole = empty.whole (let calls = n.calls in omega arith); is = et ∙ ap (key_text 1) es })
 
 -- the one refusal that can come

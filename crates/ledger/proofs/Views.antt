@@ -11,7 +11,7 @@ use Rattle.book.specs.Rulings.{no_holding, holding_of}
 use Rattle.rulebook.specs.declared.Trade.{Trade}
 use Rattle.rulebook.specs.Terms.{Side, securities, cash}
 use Rattle.rulebook.specs.Rules.{Rulebook, Standing, empty, start, Reached}
-use Rattle.ledger.specs.View.{by_side, standing, holding_in, holdings_in, table_of, Tables, tables_in, standing_of, standing_in}
+use Rattle.ledger.specs.View.{both_sides, standing, holding_in, holdings_in, table_of, Tables, tables_in, standing_of, standing_in}
 use Rattle.ledger.specs.declared.parts.Parts.{Parts}
 use Rattle.ledger.specs.Rows.{blank, state_at, terms_at}
 
@@ -22,7 +22,7 @@ replicated t = ⊎_elim (λ l. get_or-replicate 128 t blank blank l) (λ p. get_
 pub standing-same : (r c : Holdings) (rows : List Trade) (s : Standing) → r ≡ s.book securities → c ≡ s.book cash
     → ((t : ℕ) → state_at rows t ≡ s.state t) → ((t : ℕ) → terms_at rows t ≡ s.terms t) → standing r c rows ≡ s
 standing-same r c rows s er ec es em =
-    let books : (d : Side) → by_side r c d ≡ s.book d = λ d. elim d as (λ d. by_side r c d ≡ s.book d) [ securities ↦ er | cash ↦ ec ] in
+    let books : (d : Side) → both_sides r c d ≡ s.book d = λ d. elim d as (λ d. both_sides r c d ≡ s.book d) [ securities ↦ er | cash ↦ ec ] in
     λ k. record { book = λ d. books d k; state = λ t. es t k; terms = λ t. em t k }
 
 pub fresh : (r c : Holdings) (rows : List Trade) → r ≡ nothing → c ≡ nothing → rows ≡ replicate 128 blank → standing r c rows ≡ empty

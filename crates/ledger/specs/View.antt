@@ -17,17 +17,17 @@ use Rattle.rulebook.specs.Table.{Act}
 use Rattle.rulebook.specs.Rules.{Rulebook, Standing, deed}
 use Rattle.ledger.specs.Rows.{state_at, terms_at}
 
-abbrev pub by_side : {X : Type 0} → X → X → Side → X
-by_side r c securities = r
-by_side r c cash = c
+abbrev pub both_sides : {X : Type 0} → X → X → Side → X
+both_sides r c securities = r
+both_sides r c cash = c
 
 -- the register's and the cash book's kinds as a rule book
-abbrev pub rulebook : BookKind → BookKind → Rulebook
-rulebook r c = record { kind = by_side r c }
+abbrev pub rulebook_of : BookKind → BookKind → Rulebook
+rulebook_of r c = record { book_kind = both_sides r c }
 
 -- a table of trades between two books
 abbrev pub standing : Holdings → Holdings → List Trade → Standing
-standing r c rows = record { book = by_side r c; state = state_at rows; terms = terms_at rows }
+standing r c rows = record { book = both_sides r c; state = state_at rows; terms = terms_at rows }
 
 -- a book in a table: a row for each account, and in it a holding for each item
 abbrev pub Table : Type 0
@@ -79,4 +79,4 @@ IsJudged k verdict (Err fault) = verdict ≡ Err fault
 
 -- the question of what an account has of an item, or of a currency
 abbrev pub holding_question : Rulebook → Standing → Side → ℕ → ℕ → Result Holding Refusal
-holding_question h s d account item = amount_answer (h.kind d) (holding_of (s.book d)) account item
+holding_question h s d account item = amount_answer (h.book_kind d) (holding_of (s.book d)) account item

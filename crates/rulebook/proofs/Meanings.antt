@@ -12,7 +12,7 @@ use Rattle.rulebook.specs.declared.Terms.{Terms}
 use Rattle.rulebook.specs.Table.{after, starts, next, Steps}
 use Rattle.rulebook.specs.Terms.{terms_of}
 use Rattle.rulebook.specs.Rules.{Rulebook, Standing, all_checks, answer, at, turned, effect}
-use Rattle.rulebook.specs.Words.{On, EnterOn, Never, Last, After, Stated, LastWords}
+use Rattle.rulebook.specs.Words.{On, EnterOn, Never, Last, After, Stated, LastsAreUnique}
 use Rattle.rulebook.proofs.Bytes.{by-byte}
 use Rattle.rulebook.proofs.Replay.{read_state, read_terms}
 use Rattle.rulebook.proofs.Checks.{right, enter-code}
@@ -147,8 +147,8 @@ is-enter-on t x =
     ⊎_elim (λ (e : x.trade ≡ t). inl (record { kind = k; trade = e })) (λ (n : x.trade ≡ t → ⊥). inr (λ o. n o.trade)) (cases_eq x.trade t))
     (λ (n : x.kind ≡ 3 → ⊥). inr (λ o. n o.kind)) (cases_eq x.kind 3)
 
-pub last-words : LastWords
-last-words = record {
+pub lasts-are-unique : LastsAreUnique
+lasts-are-unique = record {
   of-trade = λ t. record { some = some (On t) (is-on t); one = one (On t) };
   of-enter = λ t. record { some = some (EnterOn t) (is-enter-on t); one = one (EnterOn t) };
 }

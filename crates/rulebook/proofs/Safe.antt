@@ -22,7 +22,7 @@ pub record Proper (h : Rulebook) (m : Terms) : Type 0 where
   pub giver-low : (d : Side) → giver d m < 64
   pub taker-low : (d : Side) → taker d m < 64
   pub apart : m.seller ≡ m.buyer → ⊥
-  pub asset-low : (d : Side) → asset d m < (h.kind d).items
+  pub asset-low : (d : Side) → asset d m < (h.book_kind d).items
   pub some-volume : (d : Side) → 0 < volume d m
 
 -- what carrying out rests on: terms are proper, and what a trade has blocked is there
@@ -57,7 +57,7 @@ module _ (h : Rulebook) where
         giver-low = λ d. elim d as (λ d. giver d (terms_of x) < 64) [ securities ↦ seller | cash ↦ buyer ];
         taker-low = λ d. elim d as (λ d. taker d (terms_of x) < 64) [ securities ↦ buyer | cash ↦ seller ];
         apart = eqb-false _ _ c.0;
-        asset-low = λ d. elim d as (λ d. asset d (terms_of x) < (h.kind d).items) [ securities ↦ leb-false _ _ items.0 | cash ↦ leb-false _ _ items.1 ];
+        asset-low = λ d. elim d as (λ d. asset d (terms_of x) < (h.book_kind d).items) [ securities ↦ leb-false _ _ items.0 | cash ↦ leb-false _ _ items.1 ];
         some-volume = λ d. elim d as (λ d. 0 < volume d (terms_of x)) [ securities ↦ (let z = eqb-false x.quantity 0 some.0 in omega arith) | cash ↦ (let z = eqb-false x.amount 0 some.1 in omega arith) ];
       })
   proper-step s x q k o e p =

@@ -21,7 +21,7 @@ use Rattle.rulebook.specs.Terms.{no_terms, terms_of, Side, securities, cash, giv
 
 -- what is fixed before the first instruction: the kinds of the register and of the cash book
 pub record Rulebook : Type 0 where
-  pub kind : Side → BookKind
+  pub book_kind : Side → BookKind
 
 -- where a ledger stands: the two books, and each trade's state and terms
 pub record Standing : Type 0 where
@@ -83,16 +83,16 @@ module _ (h : Rulebook) where
   enter_checks x =
       nat_eq x.account x.counterparty refuses 33
       ∷ (nat_le ACCOUNTS x.account || nat_le ACCOUNTS x.counterparty) refuses 21
-      ∷ (nat_le (h.kind securities).items x.item || nat_le (h.kind cash).items x.currency)
+      ∷ (nat_le (h.book_kind securities).items x.item || nat_le (h.book_kind cash).items x.currency)
       refuses 22
       ∷ (x.quantity == 0 || x.amount == 0) refuses 23 ∷ []
 
   -- the checks of each kind, the trade being in state o on terms m
   abbrev pub checks_of : Act → State → Terms → Standing → Instruction → List Check
   checks_of (Some Issue) o m s x =
-      checks (h.kind securities) (s.book securities) (crediting x.account x.item x.quantity)
+      checks (h.book_kind securities) (s.book securities) (crediting x.account x.item x.quantity)
   checks_of (Some PayIn) o m s x =
-      checks (h.kind cash) (s.book cash) (crediting x.account x.currency x.amount)
+      checks (h.book_kind cash) (s.book cash) (crediting x.account x.currency x.amount)
   checks_of (Some Enter) o m s x = trade_checks (Some Enter) 34 o x (enter_checks x)
   checks_of (Some Earmark) o m s x =
       trade_checks (Some Earmark) 35 o x (enough_free securities m s ∷ [])
@@ -126,8 +126,8 @@ abbrev pub OfTrade : Act → Type 0
 OfTrade k = T (names_trade k)
 
 -- its fault says which
-abbrev pub about : Instruction → Fault → Fault
-about x f = cond (names_trade (kind_at x.kind)) (of_trade x.trade f) f
+abbrev pub fault_about : Instruction → Fault → Fault
+fault_about x f = cond (names_trade (kind_at x.kind)) (of_trade x.trade f) f
 
 -- By the kind bytes: at 3 to 7 the fault names the trade, at any other it names what it named; and it
 -- is as it was in all else.
@@ -141,14 +141,14 @@ pub record IsAbout (x : Instruction) (f about-x : Fault) : Type 0 where
 
 -- so does its refusal
 abbrev pub fault_of : Instruction → Refusal → Fault
-fault_of x r = about x (plain r)
+fault_of x r = fault_about x (plain r)
 
 abbrev pub with_trade : Instruction → Result (Unit {0}) Refusal → Result (Unit {0}) Fault
 with_trade x (Ok u) = Ok u
 with_trade x (Err r) = Err (fault_of x r)
 
-abbrev pub verdict : Rulebook → Standing → Instruction → Result (Unit {0}) Fault
-verdict h s x = with_trade x (answer h s x)
+abbrev pub fault_answer : Rulebook → Standing → Instruction → Result (Unit {0}) Fault
+fault_answer h s x = with_trade x (answer h s x)
 
 -- a function changed at one place
 abbrev pub at : {X : Type 0} → (ℕ → X) → ℕ → X → ℕ → X

@@ -1,5 +1,5 @@
 use Rattle.std.proofs.Common.{◌≡◌, [], ◌∷◌, ◌++◌, get_or, vec_items, sym, ap, subst, rules}
-use Rattle.ledger.specs.View.{rulebook}
+use Rattle.ledger.specs.View.{rulebook_of}
 use Rattle.depository.specs.declared.calls.Call.TheVariants.{Instruct, Restart, Ask}
 use Rattle.depository.specs.Orders.{Order, to_instruct, to_restart, to_ask, order}
 use Rattle.depository.specs.Moments.{moment_of}
@@ -13,7 +13,7 @@ pub loop-call-init : goal.loop-call-init
 loop-call-init g c =
     let a = moment_of c.args.self in
     let d = device_of c.args.self.condition in
-    let start = subst (λ ys. Path g.D.Device.makes g.D.Device.medium (rulebook g.R.Book.book_kind g.C.Book.book_kind) g.D.PoweredDevice.most_calls a d [] ys a d) (sym c.requires.none) (done (means-it c.args.self.condition)) in
+    let start = subst (λ ys. Path g.D.Device.makes g.D.Device.medium (rulebook_of g.R.Book.book_kind g.C.Book.book_kind) g.D.PoweredDevice.most_calls a d [] ys a d) (sym c.requires.none) (done (means-it c.args.self.condition)) in
     (search rules, search rules, search rules, start)
 
 -- The call that is made is the next of the list, and its reply goes to the end of the replies.
@@ -26,7 +26,7 @@ loop-call-preserved g c =
     let n = c.loop-call.call-index in
     let makes = g.D.Device.makes in
     let means = g.D.Device.medium in
-    let h = rulebook g.R.Book.book_kind g.C.Book.book_kind in
+    let h = rulebook_of g.R.Book.book_kind g.C.Book.book_kind in
     let most = g.D.PoweredDevice.most_calls in
     let old = vec_items c.loop-call.replies in
     let new = vec_items c.push_reserved.new.self in
@@ -72,4 +72,4 @@ loop-call-preserved g c =
 
 pub returns-clause-path : goal.returns-clause-path
 returns-clause-path g c =
-    assumption (all-calls g.D.Device.makes g.D.Device.medium (rulebook g.R.Book.book_kind g.C.Book.book_kind) g.D.PoweredDevice.most_calls c.args.calls.now c.loop-call.call-index c.loop-call-test.false c.loop-call.invariant.3)
+    assumption (all-calls g.D.Device.makes g.D.Device.medium (rulebook_of g.R.Book.book_kind g.C.Book.book_kind) g.D.PoweredDevice.most_calls c.args.calls.now c.loop-call.call-index c.loop-call-test.false c.loop-call.invariant.3)

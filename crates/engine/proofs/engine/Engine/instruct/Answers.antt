@@ -1,9 +1,9 @@
 use Rattle.std.proofs.Common.{◌≡◌, Ok, Err, [], sym, ap, subst, refl, ◌∙◌, rules}
-use Rattle.ledger.specs.View.{rulebook}
+use Rattle.ledger.specs.View.{rulebook_of}
 use Rattle.refusals.specs.Answers.{if_ok}
-use Rattle.rulebook.specs.Rules.{about}
+use Rattle.rulebook.specs.Rules.{fault_about}
 use Rattle.device.specs.Traces.{IsTrace}
-use Rattle.rulebook.proofs.Givens.{accepted}
+use Rattle.rulebook.proofs.Following.{accepted}
 use Rattle.journal.proofs.Placing.{entry-placed}
 use Rattle.engine.specs.View.{view}
 use Rattle.engine.proofs.Instructs.{carried-out, let-pass}
@@ -14,13 +14,13 @@ use Rattle.engine.proofs.engine.Engine.instruct.Goals as goal
 
 pub returns-clause-done : goal.returns-clause-done
 returns-clause-done g c =
-    let h = rulebook g.R.Book.book_kind g.C.Book.book_kind in
+    let h = rulebook_of g.R.Book.book_kind g.C.Book.book_kind in
     let v = view g.D.Device.medium c.args.self.now in
     let x = c.args.x.now in
     carried-out {h = h} {x = x} {v = v} (search rules) (search rules) (λ p. record {
       mode = p.mode;
       medium = c.enter.ensures.after;
-      standing = c.instruct.ensures.after.after ∙ accepted h v.standing x p.accepted;
+      standing = c.instruct.ensures.by_rules.after ∙ accepted h v.standing x p.accepted;
       pairs = refl;
       found = refl;
       last = refl;
@@ -29,7 +29,7 @@ returns-clause-done g c =
 
 pub returns-in-Err-clause-trace : goal.returns-in-Err-clause-trace
 returns-in-Err-clause-trace g c =
-    let h = rulebook g.R.Book.book_kind g.C.Book.book_kind in
+    let h = rulebook_of g.R.Book.book_kind g.C.Book.book_kind in
     let x = c.args.x.now in
     let v = view g.D.Device.medium c.args.self.now in
     let passed : checked h x v ≡ Ok tt = search rules in
@@ -37,19 +37,19 @@ returns-in-Err-clause-trace g c =
 
 pub returns-in_err-check-clause-cut : goal.returns-in_err-check-clause-cut
 returns-in_err-check-clause-cut g c =
-    let h = rulebook g.R.Book.book_kind g.C.Book.book_kind in
+    let h = rulebook_of g.R.Book.book_kind g.C.Book.book_kind in
     let v = view g.D.Device.medium c.args.self.now in
     let done : Instructed h c.args.x.now v v c.from_residual.result = search rules in
     cut-short h c.args.x.now v v done
 
 pub returns-in-Err-clause-cut : goal.returns-in-Err-clause-cut
 returns-in-Err-clause-cut g c =
-    let h = rulebook g.R.Book.book_kind g.C.Book.book_kind in
+    let h = rulebook_of g.R.Book.book_kind g.C.Book.book_kind in
     let x = c.args.x.now in
     let v = view g.D.Device.medium c.args.self.now in
     let passed : checked h x v ≡ Ok tt = search rules in
     let answered = c.in-Err.ensures.answer in
-    cut-down h x v _ (let-pass (sym passed)) (sym answered) (ap (λ f. Err f) (c.about.ensures.value ∙ ap (about x) c.in_entry.ensures)) refl
+    cut-down h x v _ (let-pass (sym passed)) (sym answered) (ap (λ f. Err f) (c.fault_about.ensures.value ∙ ap (fault_about x) c.in_entry.ensures)) refl
 
 pub returns-clause-places : goal.returns-clause-places
 returns-clause-places g c done =

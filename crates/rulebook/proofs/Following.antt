@@ -5,7 +5,7 @@ use Rattle.instruction.specs.declared.Instruction.{Instruction}
 use Rattle.refusals.specs.Answers.{if_ok}
 use Rattle.rulebook.specs.Table.{Steps}
 use Rattle.rulebook.specs.Rules.{Rulebook, Standing, answer, effect, step, more, Reached}
-use Rattle.rulebook.specs.Law.{Given}
+use Rattle.rulebook.specs.Law.{FollowsRules}
 use Rattle.rulebook.proofs.Carries.{carried-out}
 use Rattle.rulebook.proofs.Meanings.{moves}
 
@@ -24,7 +24,7 @@ stepped h s x z (Err f) e = z
 pub reached-step : (h : Rulebook) (s : Standing) (x : Instruction) → Reached h s → Reached h (step h s x)
 reached-step h s x z = stepped h s x z (answer h s x) refl
 
-pub given : (h : Rulebook) (s t : Standing) (x : Instruction) → Reached h s → t ≡ step h s x → Given h s t x
+pub given : (h : Rulebook) (s t : Standing) (x : Instruction) → Reached h s → t ≡ step h s x → FollowsRules h s t x
 given h s t x z e = record {
   after = e;
   reached = subst (λ u. Reached h u) (sym e) (reached-step h s x z);
