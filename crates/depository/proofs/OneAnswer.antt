@@ -10,11 +10,11 @@ use Rattle.device.specs.Traces.{DeviceCall, restarting, IsTrace}
 use Rattle.device.proofs.Traces.{traced-fixed}
 use Rattle.journal.specs.Blocks.{header_bytes}
 use Rattle.journal.specs.Format.{format_calls}
-use Rattle.journal.specs.Journal.{enter_answer}
+use Rattle.journal.specs.Journal.{write_entry_answer}
 use Rattle.engine.specs.declared.slip.Contents.{Contents}
 use Rattle.engine.specs.View.{View}
-use Rattle.engine.specs.Opening.{header_for}
-use Rattle.engine.specs.Instructing.{checked, LeftBy}
+use Rattle.engine.specs.Opening.{header_for_books}
+use Rattle.engine.specs.Instructing.{check_answer, Leaves}
 use Rattle.engine.specs.Tracing.{instruct_calls, opening_calls}
 use Rattle.depository.specs.declared.calls.Reply.{Reply}
 use Rattle.depository.specs.declared.calls.Reply.TheVariants.{Instructed}
@@ -26,17 +26,17 @@ use Rattle.depository.proofs.Fixing.{Settled}
 use Rattle.depository.specs.Paths.{Path, done, onward}
 use Rattle.depository.specs.Law.{Run}
 
-view-same : {v w : View} → v.mode ≡ w.mode → v.medium ≡ w.medium → v.standing ≡ w.standing → v.pairs ≡ w.pairs → v.found ≡ w.found → v.last ≡ w.last → v.count ≡ w.count → v ≡ w
+view-same : {v w : View} → v.mode ≡ w.mode → v.medium ≡ w.medium → v.standing ≡ w.standing → v.pairs ≡ w.pairs → v.found ≡ w.found → v.last_found ≡ w.last_found → v.entry_count ≡ w.entry_count → v ≡ w
 view-same mode medium standing pairs found last count =
-    λ i. record { mode = mode i; medium = medium i; standing = standing i; pairs = pairs i; found = found i; last = last i; count = count i }
+    λ i. record { mode = mode i; medium = medium i; standing = standing i; pairs = pairs i; found = found i; last_found = last i; entry_count = count i }
 
 -- but for the device, what an instruction leaves is fixed
-view-one : (c w : Answer) (x : Instruction) (v v₁ v₂ : View) → LeftBy c w x v v₁ → LeftBy c w x v v₂ → v₁.medium ≡ v₂.medium → v₁ ≡ v₂
+view-one : (c w : Answer) (x : Instruction) (v v₁ v₂ : View) → Leaves c w x v v₁ → Leaves c w x v v₂ → v₁.medium ≡ v₂.medium → v₁ ≡ v₂
 view-one (Err f) w x v v₁ v₂ one two e = one ∙ sym two
 view-one (Ok u) (Ok t) x v v₁ v₂ one two e =
-    view-same (one.mode ∙ sym two.mode) e (one.standing ∙ sym two.standing) (one.pairs ∙ sym two.pairs) (one.found ∙ sym two.found) (one.last ∙ sym two.last) (one.count ∙ sym two.count)
+    view-same (one.mode ∙ sym two.mode) e (one.standing ∙ sym two.standing) (one.pairs ∙ sym two.pairs) (one.found ∙ sym two.found) (one.last_found ∙ sym two.last_found) (one.entry_count ∙ sym two.entry_count)
 view-one (Ok u) (Err f) x v v₁ v₂ one two e =
-    view-same (one.mode ∙ sym two.mode) e (one.standing ∙ sym two.standing) (one.pairs ∙ sym two.pairs) (one.found ∙ sym two.found) (one.last ∙ sym two.last) (one.count ∙ sym two.count)
+    view-same (one.mode ∙ sym two.mode) e (one.standing ∙ sym two.standing) (one.pairs ∙ sym two.pairs) (one.found ∙ sym two.found) (one.last_found ∙ sym two.last_found) (one.entry_count ∙ sym two.entry_count)
 
 -- what a path's first device means
 starts-at : {D : Type 0} {makes : D → DeviceCall → D → Type 0} {means : D → Medium} {h : Rulebook} {most : ℕ} {a b : Moment} {d e : D} {cs : List Order} {rs : List Reply} → Path makes means h most a d cs rs b e → means d ≡ medium_in a.phase
@@ -65,7 +65,7 @@ module _ {D S : Type 0} (makes : D → DeviceCall → D → Type 0) (means : D �
     running-one v l (to_instruct x) one two k k' =
         let q = traced-fixed makes seen z.fixed (instruct_calls h x v) d d' e e' k k' s in
         let medium : one.after.medium ≡ two.after.medium = same-medium q (t ∙ ap (λ n. medium_in n.phase) one.leads.leads) (t' ∙ ap (λ n. medium_in n.phase) two.leads.leads) in
-        let after = view-one (checked h x v) (enter_answer v.medium v.count) x v one.after two.after one.engine.after two.engine.after medium in
+        let after = view-one (check_answer h x v) (write_entry_answer v.medium v.entry_count) x v one.after two.after one.engine.after two.engine.after medium in
         record {
           reply = one.leads.answer ∙ ap Instructed (one.engine.answer ∙ sym two.engine.answer) ∙ sym two.leads.answer;
           moment = one.leads.leads ∙ ap (λ w. at (running w) l) after ∙ sym two.leads.leads;
@@ -109,7 +109,7 @@ module _ {D S : Type 0} (makes : D → DeviceCall → D → Type 0) (means : D �
   pub one-answer : {pairs : ℕ} {d d' : D} {books : Side → Holdings} {cs : List Order} {rs rs' : List Reply} {b b' : Moment} {e e' : D} → seen d ≡ seen d' → Run makes means h most pairs d books cs rs b e
       → Run makes means h most pairs d' books cs rs' b' e' → rs ≡ rs'
   one-answer {pairs} {d} {d'} {books} {cs} {rs} {rs'} {b} {b'} {e} {e'} s one two =
-      let calls : Medium → List DeviceCall = λ m. format_calls (header_bytes (header_for h pairs)) pairs m.size m.calls_left in
+      let calls : Medium → List DeviceCall = λ m. format_calls (header_bytes (header_for_books h pairs)) pairs m.size m.calls_left in
       let also = subst (λ m. IsTrace makes (calls m) d' two.device) (sym (z.meaning d d' s)) two.formatted.trace in
       let q = traced-fixed makes seen z.fixed (calls (means d)) d d' one.device two.device one.formatted.trace also s in
       let start = subst (λ m. Path makes means h most (at (shut m books) None) two.device cs rs' b' e') (sym (z.meaning one.device two.device q)) two.path in

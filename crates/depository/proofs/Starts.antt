@@ -12,8 +12,8 @@ use Rattle.device.specs.Calls.{Answer}
 use Rattle.device.specs.Traces.{DeviceCall, writing, syncing, IsTrace}
 use Rattle.journal.specs.Blocks.{zeros, header_bytes}
 use Rattle.journal.proofs.Fresh.{fresh-journal}
-use Rattle.journal.specs.Format.{no_room, format_answer, header_for as format_header, Formatted, mark_writes, format_calls}
-use Rattle.engine.specs.Opening.{header_for}
+use Rattle.journal.specs.Format.{no_room, format_answer, header_for_kinds as format_header, Formats, mark_writes, format_calls}
+use Rattle.engine.specs.Opening.{header_for_books}
 use Rattle.depository.specs.declared.calls.Reply.{Reply}
 use Rattle.depository.specs.Orders.{Order}
 use Rattle.depository.specs.Moments.{Moment, shut, at}
@@ -40,13 +40,13 @@ room : (pairs size : ℕ) → no_room pairs size ≡ false → Room pairs size
 room pairs size e = record { paired = record { some = grind arith; few = grind arith }; within = grind arith }
 
 -- the header that a format writes for the kinds that the books answer
-same-header : (h : Rulebook) (a b pairs : ℕ) → a ≡ (h.book_kind securities).code → b ≡ (h.book_kind cash).code → format_header a b pairs ≡ header_for h pairs
+same-header : (h : Rulebook) (a b pairs : ℕ) → a ≡ (h.book_kind securities).code → b ≡ (h.book_kind cash).code → format_header a b pairs ≡ header_for_books h pairs
 same-header h a b pairs ea eb = λ i. record { register = ea i; cash = eb i; pairs = pairs }
 
 -- a device d, and what a format by the kinds that the books answered made of it
 module _ {D : Type 0} (makes : D → DeviceCall → D → Type 0) (means : D → Medium) (h : Rulebook) (pairs : ℕ) (d e : D) (a b : ℕ) (ea : a ≡ (h.book_kind securities).code) (eb : b ≡ (h.book_kind cash).code)
     (r : Answer) (is : r ≡ format_answer pairs (means d))
-    (after : no_room pairs (means d).size ≡ false → Formatted (header_bytes (format_header a b pairs)) pairs (means d) (means e))
+    (after : no_room pairs (means d).size ≡ false → Formats (header_bytes (format_header a b pairs)) pairs (means d) (means e))
     (trace : IsTrace makes (format_calls (header_bytes (format_header a b pairs)) pairs (means d).size (means d).calls_left) d e) where
   -- the calls of a format that has room
   abbrev made : ℕ → List DeviceCall
@@ -56,7 +56,7 @@ module _ {D : Type 0} (makes : D → DeviceCall → D → Type 0) (means : D →
   after-format = record {
     format = sym is;
     refused = λ n. sym (subst (λ b. IsTrace makes (cond b [] (made (means d).calls_left)) d e) n trace);
-    after = λ n. subst (λ head. Formatted (header_bytes head) pairs (means d) (means e)) (same-header h a b pairs ea eb) (after n);
+    after = λ n. subst (λ head. Formats (header_bytes head) pairs (means d) (means e)) (same-header h a b pairs ea eb) (after n);
     trace = subst (λ head. IsTrace makes (format_calls (header_bytes head) pairs (means d).size (means d).calls_left) d e) (same-header h a b pairs ea eb) trace;
   }
 
@@ -76,7 +76,7 @@ module _ {D : Type 0} (makes : D → DeviceCall → D → Type 0) (means : D →
     kept : Kept h pairs fresh (at (shut (means e) books) None)
     kept = (
       record {
-        journal = fresh-journal (header_for h pairs) (means d) (means e) (omega (arith, paired.few)) (format-calls pairs (means d) f.format) (f.after roomy);
+        journal = fresh-journal (header_for_books h pairs) (means d) (means e) (omega (arith, paired.few)) (format-calls pairs (means d) f.format) (f.after roomy);
         lawful = record { standing = empty; runs = start; next = λ x q. absurd cc };
         size = omega (arith, (room pairs (means d).size roomy).within, (f.after roomy).size);
       },

@@ -12,15 +12,15 @@ use Rattle.rulebook.proofs.Whole.{law-of-the-ledger}
 use Rattle.device.specs.Medium.{Medium, IsBounded}
 use Rattle.device.specs.Calls.{Answer}
 use Rattle.device.specs.Traces.{DeviceCall}
-use Rattle.journal.specs.Journal.{Journal, enter_answer}
+use Rattle.journal.specs.Journal.{Journal, write_entry_answer}
 use Rattle.engine.specs.declared.engine.Mode.{Mode}
 use Rattle.engine.specs.declared.engine.Mode.TheVariants.{Open, Down, Refused}
 use Rattle.engine.specs.declared.slip.Contents.{Contents}
 use Rattle.engine.specs.View.{View}
-use Rattle.engine.specs.Asking.{opening_answer, told_by}
-use Rattle.engine.specs.Instructing.{checked, LeftBy}
-use Rattle.engine.specs.Lasting.{listed, written_by}
-use Rattle.engine.specs.Opening.{opened}
+use Rattle.engine.specs.Asking.{opening_answer, contents_by_mode}
+use Rattle.engine.specs.Instructing.{check_answer, Leaves}
+use Rattle.engine.specs.Lasting.{standing_list, blocks_for_books}
+use Rattle.engine.specs.Opening.{opening_view}
 use Rattle.engine.proofs.Openings.{listed-is}
 use Rattle.depository.specs.Orders.{Order, to_instruct, to_close, to_restart, to_open, to_ask}
 use Rattle.depository.specs.declared.calls.Reply.{Reply}
@@ -63,12 +63,12 @@ module _ (h : Rulebook) (most : ℕ) where
   owes-at : (told : Option Contents) {r r₀ : Reply} {b b₀ : Moment} → Leads r r₀ b b₀ → Owes told b₀.phase b₀.owed → Owes told b.phase b.owed
   owes-at told e o = subst (λ (n : Moment). Owes told n.phase n.owed) (sym e.leads) o
 
-  owes-left : (told : Option Contents) (c w : Answer) (x : Instruction) (v v' : View) (l : Option Contents) → LeftBy c w x v v' → OwesBy told v.mode l → OwesBy told v'.mode l
+  owes-left : (told : Option Contents) (c w : Answer) (x : Instruction) (v v' : View) (l : Option Contents) → Leaves c w x v v' → OwesBy told v.mode l → OwesBy told v'.mode l
   owes-left told (Err f) w x v v' l e o = subst (λ (z : View). OwesBy told z.mode l) (sym e) o
   owes-left told (Ok u) (Ok w) x v v' l a o = subst (λ z. OwesBy told z l) (sym a.mode) tt
   owes-left told (Ok u) (Err f) x v v' l a o = subst (λ z. OwesBy told z l) (sym a.mode) tt
 
-  owes-closed : (told : Option Contents) (m : Mode) (n : ℕ) (l : Option Contents) → OwesBy told m l → latest (told_by m n) l ≡ option_or (told_by m n) told
+  owes-closed : (told : Option Contents) (m : Mode) (n : ℕ) (l : Option Contents) → OwesBy told m l → latest (contents_by_mode m n) l ≡ option_or (contents_by_mode m n) told
   owes-closed told Open n l o = refl
   owes-closed told (Down x) n l o = refl
   owes-closed told (Refused f) n l o = o
@@ -79,15 +79,15 @@ module _ (h : Rulebook) (most : ℕ) where
   owes-opened told (Refused f) l o = o
 
   owes-next : (told : Option Contents) (a : Phase) (l : Option Contents) (c : Order) (r : Reply) (b : Moment) → Does h most (at a l) c r b → Owes told a l → Owes (option_or (closing_told a c) told) b.phase b.owed
-  owes-next told (running v) l (to_instruct x) r b d o = owes-at _ d.leads (owes-left told (checked h x v) (enter_answer v.medium v.count) x v d.after l d.engine.after o)
-  owes-next told (running v) l to_close r b d o = owes-at _ d (owes-closed told v.mode v.count l o)
+  owes-next told (running v) l (to_instruct x) r b d o = owes-at _ d.leads (owes-left told (check_answer h x v) (write_entry_answer v.medium v.entry_count) x v d.after l d.engine.after o)
+  owes-next told (running v) l to_close r b d o = owes-at _ d (owes-closed told v.mode v.entry_count l o)
   owes-next told (running v) l (to_restart q remains) r b d o = owes-at _ d o
   owes-next told (running v) l to_open r b d o = owes-at _ d o
   owes-next told (running v) l (to_ask q) r b d o = owes-at _ d o
   owes-next told (shut m books) l (to_instruct x) r b d o = owes-at _ d o
   owes-next told (shut m books) l to_close r b d o = owes-at _ d o
   owes-next told (shut m books) l (to_restart q remains) r b d o = owes-at _ d.leads o
-  owes-next told (shut m books) l to_open r b d o = owes-at _ d (owes-opened told (opened h m).mode l o)
+  owes-next told (shut m books) l to_open r b d o = owes-at _ d (owes-opened told (opening_view h m).mode l o)
   owes-next told (shut m books) l (to_ask q) r b d o = owes-at _ d o
 
   -- what is owed where a path ends
@@ -136,17 +136,17 @@ module _ (h : Rulebook) (most pairs : ℕ) (p : Paired pairs) (c₁ : (h.book_ki
 
   stands : (t : Tally) (v : View) → InEngine h pairs t v → Stands h t.list v
   stands t v k = record {
-    list = ap (listed v.medium) k.count ∙ listed-is h pairs k.device.journal;
+    list = ap (standing_list v.medium) k.entry_count ∙ listed-is h pairs k.device.journal;
     runs = k.runs;
     said = law-of-the-ledger h t.list v.standing k.runs;
   }
 
-  journal-by : (t : Tally) (v : View) (l : Option Contents) (m : Mode) → KeptBy h pairs t v l m → Journal (written_by h pairs) v.medium t.list t.hand
+  journal-by : (t : Tally) (v : View) (l : Option Contents) (m : Mode) → KeptBy h pairs t v l m → Journal (blocks_for_books h pairs) v.medium t.list t.hand
   journal-by t v l Open k = k.1.device.journal
   journal-by t v l (Down x) k = k.1.device.journal
   journal-by t v l (Refused f) k = k.0.journal
 
-  journal-in : (t : Tally) (a : Phase) (l : Option Contents) → KeptIn h pairs t a l → Journal (written_by h pairs) (medium_in a) t.list t.hand
+  journal-in : (t : Tally) (a : Phase) (l : Option Contents) → KeptIn h pairs t a l → Journal (blocks_for_books h pairs) (medium_in a) t.list t.hand
   journal-in t (running v) l k = journal-by t v l v.mode k
   journal-in t (shut m books) l k = k.0.journal
 
@@ -173,8 +173,8 @@ module _ (h : Rulebook) (most pairs : ℕ) (p : Paired pairs) (c₁ : (h.book_ki
   slip-in t told (shut n others) l k o m books e = subst (λ u. TellsTally u t) o (tells t l k.1)
 
   -- the open that comes next
-  well : (m : Medium) (l : Option Contents) (r : Reply) → opening_answer (opened h m).mode ≡ Ok tt → r ≡ opened_reply (opened h m) l → OpenedWell r
-  well m l r e is = (record { answer = opening_answer (opened h m).mode; found = (opened h m).found; presented = slip_answer (opened h m).mode (opened h m).found (opened h m).last l }, is, e)
+  well : (m : Medium) (l : Option Contents) (r : Reply) → opening_answer (opening_view h m).mode ≡ Ok tt → r ≡ opened_reply (opening_view h m) l → OpenedWell r
+  well m l r e is = (record { answer = opening_answer (opening_view h m).mode; found = (opening_view h m).found; presented = slip_answer (opening_view h m).mode (opening_view h m).found (opening_view h m).last_found l }, is, e)
 
   same-engine : {v w : View} → running v ≡ running w → v ≡ w
   same-engine e = cc
@@ -202,9 +202,9 @@ module _ (h : Rulebook) (most pairs : ℕ) (p : Paired pairs) (c₁ : (h.book_ki
   verdict t told (running w) l k owes bounded r z d o v is e gives = absurd (no-misfit (sym is ∙ d.answer))
   verdict t told (shut m books) l k owes bounded r z d o v is e gives =
       let same = same-reply (sym d.answer ∙ is) in
-      let engine : opened h m ≡ v = same-engine (sym (ap (λ (n : Moment). n.phase) d.leads) ∙ gives) in
+      let engine : opening_view h m ≡ v = same-engine (sym (ap (λ (n : Moment). n.phase) d.leads) ∙ gives) in
       let j = (reopened h pairs t m l p c₁ c₂ bounded k.0 k.1).judged (ap (λ (u : Opened). u.answer) same ∙ e) in
-      let j₁ = subst (λ (u : Opened). Judged l u (opened h m)) same j in
+      let j₁ = subst (λ (u : Opened). Judged l u (opening_view h m)) same j in
       let j₂ = subst (λ u. Judged l o u) engine j₁ in
       subst (λ u. Judged u o v) owes j₂
 

@@ -16,11 +16,11 @@ use Rattle.engine.specs.declared.engine.Mode.{Mode}
 use Rattle.engine.specs.declared.engine.Mode.TheVariants.{Open, Down, Refused}
 use Rattle.engine.specs.declared.slip.Contents.{Contents}
 use Rattle.engine.specs.declared.slip.Verdict.{Verdict}
-use Rattle.engine.specs.Slips.{judged}
+use Rattle.engine.specs.ClosingSlip.{slip_verdict}
 use Rattle.engine.specs.View.{View}
-use Rattle.engine.specs.Opening.{opened}
-use Rattle.engine.specs.Instructing.{Instructed as InstructedEngine}
-use Rattle.engine.specs.Asking.{opening_answer, if_answering, closing}
+use Rattle.engine.specs.Opening.{opening_view}
+use Rattle.engine.specs.Instructing.{TakesInstruction as InstructedEngine}
+use Rattle.engine.specs.Asking.{opening_answer, if_answering, closing_contents}
 use Rattle.depository.specs.Orders.{Order, to_instruct, to_close, to_restart, to_open, to_ask}
 use Rattle.depository.specs.declared.calls.Question.{Question}
 use Rattle.depository.specs.declared.calls.Question.TheVariants.{Securities, Money, TradeState, Entries}
@@ -55,8 +55,8 @@ pub record Restarts (q most : ℕ) (m : Medium) (books : Side → Holdings) (l :
 abbrev pub slip_answer : Mode → ℕ → Option Instruction → Option Contents
     → Option (Result Verdict Refusal)
 slip_answer m n last None = None
-slip_answer Open n last (Some c) = Some (Ok (judged (Some c) n last))
-slip_answer (Down x) n last (Some c) = Some (Ok (judged (Some c) n last))
+slip_answer Open n last (Some c) = Some (Ok (slip_verdict (Some c) n last))
+slip_answer (Down x) n last (Some c) = Some (Ok (slip_verdict (Some c) n last))
 slip_answer (Refused f) n last (Some c) = Some (Err (numbered 41))
 
 -- the slip that is owed then: an engine whose opening was refused gives it back
@@ -69,7 +69,7 @@ abbrev pub opened_reply : View → Option Contents → Reply
 opened_reply v l = OpenedReply (record {
   answer = opening_answer v.mode;
   found = v.found;
-  presented = slip_answer v.mode v.found v.last l;
+  presented = slip_answer v.mode v.found v.last_found l;
 })
 
 -- where an opening leads
@@ -87,17 +87,17 @@ told h v (Securities a i) =
 told h v (Money a i) =
     fact HoldingFact (if_answering v.mode (holding_question h v.standing cash a i))
 told h v (TradeState t) = fact StateFact (if_answering v.mode (state_question v.standing.state t))
-told h v Entries = fact EntriesFact (if_answering v.mode (Ok v.count))
+told h v Entries = fact EntriesFact (if_answering v.mode (Ok v.entry_count))
 
 module _ (h : Rulebook) (most : ℕ) where
   abbrev pub DoesIn : Phase → Option Contents → Order → Reply → Moment → Type 0
   DoesIn (running v) l (to_instruct x) r b = Instructs h x v l r b
   DoesIn (running v) l to_close r b =
-      Leads r Done b (at (shut v.medium v.standing.book) (latest (closing v) l))
+      Leads r Done b (at (shut v.medium v.standing.book) (latest (closing_contents v) l))
   DoesIn (running v) l (to_ask q) r b = Leads r (Told (told h v q)) b (at (running v) l)
   DoesIn (shut m books) l (to_restart q remains) r b = Restarts q most m books l r b
   DoesIn (shut m books) l to_open r b =
-      Leads r (opened_reply (opened h m) l) b (opened_moment (opened h m) l)
+      Leads r (opened_reply (opening_view h m) l) b (opened_moment (opening_view h m) l)
   -- any other call does not fit: it is answered so, and changes nothing
   DoesIn a l c r b = Leads r Misfit b (at a l)
 

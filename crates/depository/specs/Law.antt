@@ -15,15 +15,15 @@ use Rattle.device.specs.Calls.{Answer}
 use Rattle.device.specs.Traces.{DeviceCall, IsTrace}
 use Rattle.journal.specs.Blocks.{header_bytes}
 use Rattle.journal.specs.Journal.{Journal}
-use Rattle.journal.specs.Format.{no_room, format_answer, Formatted, format_calls}
+use Rattle.journal.specs.Format.{no_room, format_answer, Formats, format_calls}
 use Rattle.engine.specs.declared.engine.Mode.TheVariants.{Open, Down}
 use Rattle.engine.specs.declared.slip.Contents.{Contents}
 use Rattle.engine.specs.declared.slip.Verdict.{Verdict}
-use Rattle.engine.specs.Slips.{Judges, presented_number}
+use Rattle.engine.specs.ClosingSlip.{HasVerdict, presented_number}
 use Rattle.engine.specs.View.{View}
 use Rattle.engine.specs.Asking.{opening_answer}
-use Rattle.engine.specs.Lasting.{listed, written_by}
-use Rattle.engine.specs.Opening.{header_for}
+use Rattle.engine.specs.Lasting.{standing_list, blocks_for_books}
+use Rattle.engine.specs.Opening.{header_for_books}
 use Rattle.depository.specs.Orders.{Order, to_open}
 use Rattle.depository.specs.declared.calls.Reply.{Reply}
 use Rattle.depository.specs.declared.calls.Reply.TheVariants.{Opened as OpenedReply}
@@ -46,7 +46,7 @@ enough_to_open = 65535
 -- what it received, less what it gave; and what is blocked is what its open trades hold.
 pub record Stands (h : Rulebook) (xs : List Instruction) (v : View) : Type 0 where
   -- no record here is one that says nothing: the rules would not accept what is listed for it
-  pub list : listed v.medium v.count ≡ xs
+  pub list : standing_list v.medium v.entry_count ≡ xs
   pub runs : Runs h xs v.standing
   pub said : Determines xs v.standing
 
@@ -56,7 +56,7 @@ pub record Judged (told : Option Contents) (o : Opened) (v : View) : Type 0 wher
   pub none : told ≡ None → o.presented ≡ None
   -- its slip is judged by the count of the entries found and the last of them
   pub judged : (c : Contents) → told ≡ Some c
-      → (w : Verdict) × (o.presented ≡ Some (Ok w)) × Judges (Some c) o.found v.last w
+      → (w : Verdict) × (o.presented ≡ Some (Ok w)) × HasVerdict (Some c) o.found v.last_found w
   pub upheld : (p : Result Verdict Refusal) → o.presented ≡ Some p
       → (presented_number p ≡ 0) ⊎ (presented_number p ≡ 1)
 
@@ -80,7 +80,7 @@ module _ (h : Rulebook) (most pairs : ℕ) where
     pub stands : (v : View) → b.phase ≡ running v → opening_answer v.mode ≡ Ok tt
         → Stands h (tally cs rs).list v
     pub keeps : (v : View) → b.phase ≡ running v → opening_answer v.mode ≡ Ok tt
-        → Journal (written_by h pairs) v.medium (tally cs rs).list (tally cs rs).hand
+        → Journal (blocks_for_books h pairs) v.medium (tally cs rs).list (tally cs rs).hand
     -- nothing is in hand on an engine that is open, and on one that is down what was cut short
     pub idle : (v : View) → b.phase ≡ running v → v.mode ≡ Open → (tally cs rs).hand ≡ None
     pub hand : (v : View) → b.phase ≡ running v
@@ -107,7 +107,7 @@ module _ (h : Rulebook) (most pairs : ℕ) where
     pub refused : (r : Reply) (z : Moment) → Does h most b to_open r z
         → (o : Opened) (f : Fault) → r ≡ OpenedReply o → o.answer ≡ Err f → number_of f.refusal ≡ 13
     -- the device keeps the tally, and what is in hand, also while no engine runs
-    pub keeps : Journal (written_by h pairs) (medium_in b.phase)
+    pub keeps : Journal (blocks_for_books h pairs) (medium_in b.phase)
         (tally cs rs).list (tally cs rs).hand
 
 module _ {D : Type 0} (makes : D → DeviceCall → D → Type 0) (means : D → Medium)
@@ -119,9 +119,9 @@ module _ {D : Type 0} (makes : D → DeviceCall → D → Type 0) (means : D →
     pub refused : no_room pairs (means d).size ≡ true → e ≡ d
     -- else its calls were made, up to the first that found none left
     pub after : no_room pairs (means d).size ≡ false
-        → Formatted (header_bytes (header_for h pairs)) pairs (means d) (means e)
+        → Formats (header_bytes (header_for_books h pairs)) pairs (means d) (means e)
     pub trace : IsTrace makes
-        (format_calls (header_bytes (header_for h pairs)) pairs (means d).size (means d).calls_left) d e
+        (format_calls (header_bytes (header_for_books h pairs)) pairs (means d).size (means d).calls_left) d e
 
   module _ (most pairs : ℕ) (d : D) (books : Side → Holdings) where
     -- A format of d with so many pairs was answered 0, and from there the calls cs, answered rs,

@@ -7,7 +7,7 @@ use Rattle.rulebook.specs.Rules.{Rulebook}
 use Rattle.device.specs.Medium.{Medium}
 use Rattle.device.specs.Traces.{DeviceCall}
 use Rattle.engine.specs.declared.slip.Contents.{Contents}
-use Rattle.engine.specs.Asking.{closing}
+use Rattle.engine.specs.Asking.{closing_contents}
 use Rattle.depository.specs.Orders.{Order, to_instruct, to_close}
 use Rattle.depository.specs.declared.calls.Reply.{Reply}
 use Rattle.depository.specs.Moments.{Phase, running, Moment}
@@ -38,7 +38,7 @@ pub data Path {D : Type 0} (makes : D → DeviceCall → D → Type 0) (means : 
 
 -- what a call tells by a closing slip: a close of an engine, unless its opening was refused
 abbrev pub closing_told : Phase → Order → Option Contents
-closing_told (running v) to_close = closing v
+closing_told (running v) to_close = closing_contents v
 closing_told a c = None
 
 module _ {D : Type 0} {makes : D → DeviceCall → D → Type 0} {means : D → Medium}

@@ -2,7 +2,7 @@
 use Rattle.std.specs.Prelude.{Some, None, Option, is_some, ◌≡◌}
 use Rattle.engine.specs.declared.slip.Slip.{Slip}
 use Rattle.engine.specs.declared.slip.Contents.{Contents}
-use Rattle.engine.specs.Slips.{contents}
+use Rattle.engine.specs.ClosingSlip.{contents}
 
 -- what the slip tells, if one is owed
 abbrev pub owed_contents : Option Slip → Option Contents

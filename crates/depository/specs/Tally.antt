@@ -5,7 +5,7 @@ use Rattle.refusals.specs.Numbers.{number_of}
 use Rattle.instruction.specs.declared.Instruction.{Instruction}
 use Rattle.device.specs.Calls.{Answer}
 use Rattle.engine.specs.declared.slip.Verdict.{Verdict}
-use Rattle.engine.specs.Slips.{presented_number}
+use Rattle.engine.specs.ClosingSlip.{presented_number}
 use Rattle.depository.specs.Orders.{Order, to_instruct, to_open}
 use Rattle.depository.specs.declared.calls.Reply.{Reply}
 use Rattle.depository.specs.declared.calls.Reply.TheVariants.{Instructed, Opened}

@@ -5,14 +5,14 @@ use Rattle.refusals.specs.declared.Fault.{Fault}
 use Rattle.device.specs.Medium.{Medium}
 use Rattle.device.specs.Calls.{Answer, Write, Sync}
 use Rattle.device.proofs.Answered.{write-passed, write-refused, sync-passed, sync-refused}
-use Rattle.journal.specs.Journal.{record_at, mark_at, Entered}
+use Rattle.journal.specs.Journal.{record_at, mark_at, WritesEntry}
 
 module _ (k : ℕ) (entry mark : List ℕ) {m₀ m₁ m₂ : Medium} (w : Write m₀ m₁ (record_at k) entry (Ok tt)) (s : Sync m₁ m₂ (Ok tt)) where
   begun : m₀.calls_left ≡ m₂.calls_left + 2
   begun = let p = (write-passed w).calls in let q = sync-passed s in omega (arith, w.calls_left, s.calls_left, p, q)
 
   -- there was no call for the mark
-  pub mark-refused : {m₃ : Medium} {f : Fault} → Write m₂ m₃ (mark_at k) mark (Err f) → mark_at k < m₂.size → length mark ≡ 256 → Entered entry mark k m₀ m₃
+  pub mark-refused : {m₃ : Medium} {f : Fault} → Write m₂ m₃ (mark_at k) mark (Err f) → mark_at k < m₂.size → length mark ≡ 256 → WritesEntry entry mark k m₀ m₃
   mark-refused {m₃} {f} x l full =
       let none = (write-refused x l full).1 in
       record {
@@ -46,7 +46,7 @@ module _ (k : ℕ) (entry mark : List ℕ) {m₀ m₁ m₂ : Medium} (w : Write 
     all-firm {m₄} (Ok u) t l b = t.loose b
     all-firm {m₄} (Err e) t l b = let n = (sync-refused t).1 in absurd (omega (arith, begun, written, n))
 
-    pub all-called : {m₄ : Medium} {r : Answer} → Sync m₃ m₄ r → Entered entry mark k m₀ m₄
+    pub all-called : {m₄ : Medium} {r : Answer} → Sync m₃ m₄ r → WritesEntry entry mark k m₀ m₄
     all-called {m₄} {r} t = record {
       size = t.size ∙ x.elsewhere.size ∙ s.size ∙ w.elsewhere.size;
       calls_left = omega (arith, last r t, begun, written);

@@ -18,7 +18,7 @@ use Rattle.journal.proofs.Trips.{mark-is, mark-back}
 use Rattle.engine.specs.declared.engine.Recovered.{Recovered}
 use Rattle.engine.specs.Recovery.{with_calls, good, told, said, allowed, ruled, marked, entry_answer, turn, Scan, scan}
 use Rattle.engine.specs.Opening.{last_of}
-use Rattle.engine.specs.Lasting.{written_by}
+use Rattle.engine.specs.Lasting.{blocks_for_books}
 
 -- from s the instructions are accepted one after another, and lead to t
 abbrev Follows : Rulebook → Standing → List Instruction → Standing → Type 0
@@ -112,7 +112,7 @@ module _ (h : Rulebook) (m : Medium) (s : Standing) (k calls : ℕ) where
         ∙ ap (ruled h s k) (cond-false (eqb (calls - 1) 0) _ _ (ne_eqb (calls - 1) 0 more-calls) ∙ ap (said k) holds ∙ ap (told k) is)
         ∙ ap (λ r. allowed k x (with_trade x r)) ok
 
-module _ (h : Rulebook) (pairs : ℕ) (few : pairs ≤ 32767) (m : Medium) (b : IsBounded m) (ws : List Instruction) (f : Found (written_by h pairs) m ws) (t : Standing) where
+module _ (h : Rulebook) (pairs : ℕ) (few : pairs ≤ 32767) (m : Medium) (b : IsBounded m) (ws : List Instruction) (f : Found (blocks_for_books h pairs) m ws) (t : Standing) where
   -- what comes after entry k
   abbrev turns : ℕ → ℕ → ℕ → Standing → Option Instruction → Scan
   turns n k calls s last =
@@ -124,7 +124,7 @@ module _ (h : Rulebook) (pairs : ℕ) (few : pairs ≤ 32767) (m : Medium) (b : 
       elim (cases_eq calls 0) [
         | inl z ↦ rw (no-mark-call h m s k calls z) (ends-refused _ (suc n) calls (calls - 2) s refl (omega arith) (omega arith))
         | inr some ↦
-            let bad : m.holds (mark_at k) ≡ Some (mark_bytes k) → ⊥ = subst (λ j. Good (written_by h pairs) m j → ⊥) (sym ek) (f.stop (omega arith)) in
+            let bad : m.holds (mark_at k) ≡ Some (mark_bytes k) → ⊥ = subst (λ j. Good (blocks_for_books h pairs) m j → ⊥) (sym ek) (f.stop (omega arith)) in
             rw (mark-answers h m s k calls some false (mark-bad m k b bad)) (ends-found k (suc n) calls (calls - 1) s last ek el es (omega arith))
       ]
 
@@ -157,6 +157,6 @@ module _ (h : Rulebook) (pairs : ℕ) (few : pairs ≤ 32767) (m : Medium) (b : 
       ]
 
 -- A recovery of a journal in which an opening finds ws, whose instructions lead to s, finds ws and leads there.
-pub calls-find : (h : Rulebook) (pairs : ℕ) (m : Medium) (ws : List Instruction) (s : Standing) → pairs ≤ 32767 → IsBounded m → Found (written_by h pairs) m ws → Runs h ws s
+pub calls-find : (h : Rulebook) (pairs : ℕ) (m : Medium) (ws : List Instruction) (s : Standing) → pairs ≤ 32767 → IsBounded m → Found (blocks_for_books h pairs) m ws → Runs h ws s
     → (calls : ℕ) → Ends (scan h pairs (with_calls calls m) 0 empty None) pairs calls ws s
 calls-find h pairs m ws s few b f r calls = recovers h pairs few m b ws f s pairs 0 calls empty None (omega arith) (omega arith) (follows h r) refl

@@ -11,15 +11,15 @@ use Rattle.rulebook.specs.Terms.{securities, cash}
 use Rattle.rulebook.specs.Rules.{Rulebook, Standing, empty, effect, Runs, more}
 use Rattle.device.specs.Medium.{Medium, IsBounded}
 use Rattle.device.specs.Calls.{SameBlocks}
-use Rattle.journal.specs.Journal.{Layout, mark_at, Good, Says, Journal}
+use Rattle.journal.specs.Journal.{JournalBlocks, mark_at, Good, Says, Journal}
 use Rattle.journal.specs.Blocks.{header_bytes, no_instruction}
 use Rattle.journal.proofs.Trips.{header-read}
 use Rattle.journal.proofs.Survives.{Found, looking, found-one, idle-found}
 use Rattle.engine.specs.declared.engine.Recovered.{Recovered}
 use Rattle.engine.specs.Recovery.{with_calls, drained, good, Scan, scan}
 use Rattle.engine.specs.View.{View}
-use Rattle.engine.specs.Opening.{headed, header_held, header_answer, after_header, scanned_as, scanned_on, refused_as, opened_on, opened, header_for}
-use Rattle.engine.specs.Lasting.{record_says, entry_in, listed, written_by}
+use Rattle.engine.specs.Opening.{headed, header_held, header_answer, after_header, scanned_as, scanned_on, refused_as, opened_on, opening_view, header_for_books}
+use Rattle.engine.specs.Lasting.{record_says, entry_in, standing_list, blocks_for_books}
 use Rattle.engine.proofs.Keeping.{Lawful, WithOrWithout, OpenedOn}
 use Rattle.engine.proofs.Finds.{mark-good, mark-tested, Ends, calls-find}
 
@@ -28,14 +28,14 @@ pub fewer-calls : (m : Medium) (n : ℕ) → SameBlocks m (with_calls n m)
 fewer-calls m n = record { size = refl; holds = λ k. refl; loose = λ k. refl }
 
 module _ (h : Rulebook) (pairs : ℕ) where
-  abbrev L : Layout Instruction
-  L = written_by h pairs
+  abbrev L : JournalBlocks Instruction
+  L = blocks_for_books h pairs
 
   entry-is : (m : Medium) (k : ℕ) (x : Instruction) → Says L m k x → entry_in m k ≡ x
   entry-is m k x q = ap (λ o. unwrap_or (record_says k o) no_instruction) q.1.0 ∙ ap (λ r. unwrap_or r no_instruction) q.2
 
-  listed-to : (m : Medium) (xs : List Instruction) (hand : Option Instruction) → Journal L m xs hand → (n : ℕ) → n ≤ length xs → listed m n ≡ take n xs
-  unfolding listed
+  listed-to : (m : Medium) (xs : List Instruction) (hand : Option Instruction) → Journal L m xs hand → (n : ℕ) → n ≤ length xs → standing_list m n ≡ take n xs
+  unfolding standing_list
   listed-to m xs hand j zero l = refl
   listed-to m xs hand j (suc n) l =
       let before = listed-to m xs hand j n (omega arith) in
@@ -43,7 +43,7 @@ module _ (h : Rulebook) (pairs : ℕ) where
       (λ i. before i ++ (here i ∷ [])) ∙ sym (take_more xs n no_instruction (omega arith)) ∙ ap (λ k. take k xs) (add-one n)
 
   -- the list that a device keeps is what its records say
-  pub listed-is : {m : Medium} {xs : List Instruction} {hand : Option Instruction} → Journal L m xs hand → listed m (length xs) ≡ xs
+  pub listed-is : {m : Medium} {xs : List Instruction} {hand : Option Instruction} → Journal L m xs hand → standing_list m (length xs) ≡ xs
   listed-is {m} {xs} {hand} j = listed-to m xs hand j (length xs) (omega arith) ∙ take_all (length xs) xs (omega arith)
 
   -- the mark after the list is not good
@@ -140,20 +140,20 @@ module _ (h : Rulebook) (pairs : ℕ) where
     one-spent = cond-false (leb m.size 0) m (drained 1 m) sized
 
     -- without a call the header is not read
-    no-header : m.calls_left ≡ 0 → opened h m ≡ refused_as (at_block NoCalls 0) (drained 1 m)
+    no-header : m.calls_left ≡ 0 → opening_view h m ≡ refused_as (at_block NoCalls 0) (drained 1 m)
     no-header z =
         let e : header_answer register money m ≡ Err (at_block NoCalls 0) =
         cond-false (leb m.size 0) _ _ sized ∙ cond-true (eqb m.calls_left 0) _ _ (eq-eqb m.calls_left 0 z) in
         (λ i. opened_on h (one-spent i) (e i))
 
     -- it is for these books, and the device has its blocks
-    header-right : register < 256 → money < 256 → m.holds 0 ≡ Some (header_bytes (header_for h pairs)) → header_held register money m.size (m.holds 0) ≡ Ok pairs
+    header-right : register < 256 → money < 256 → m.holds 0 ≡ Some (header_bytes (header_for_books h pairs)) → header_held register money m.size (m.holds 0) ≡ Ok pairs
     header-right r c e =
-        ap (header_held register money m.size) e ∙ ap (headed register money m.size) (header-read (header_for h pairs) r c some (omega arith))
+        ap (header_held register money m.size) e ∙ ap (headed register money m.size) (header-read (header_for_books h pairs) r c some (omega arith))
         ∙ rw (eq-eqb register register refl, eq-eqb money money refl) (cond-false (ltb m.size (1 + 2 * pairs)) _ _ (le-ltb m.size (1 + 2 * pairs) within))
 
-    pub then-scanned : (m.calls_left ≡ 0 → ⊥) → register < 256 → money < 256 → m.holds 0 ≡ Some (header_bytes (header_for h pairs))
-        → opened h m ≡ scanned_on pairs (drained 1 m) (scan h pairs (drained 1 m) 0 empty None)
+    pub then-scanned : (m.calls_left ≡ 0 → ⊥) → register < 256 → money < 256 → m.holds 0 ≡ Some (header_bytes (header_for_books h pairs))
+        → opening_view h m ≡ scanned_on pairs (drained 1 m) (scan h pairs (drained 1 m) 0 empty None)
     then-scanned left r c held =
         let e : header_answer register money m ≡ Ok pairs =
         cond-false (leb m.size 0) _ _ sized ∙ cond-false (eqb m.calls_left 0) _ _ (ne_eqb m.calls_left 0 left) ∙ header-right r c held in
@@ -179,7 +179,7 @@ module _ (h : Rulebook) (pairs : ℕ) where
 
   -- What an opening finds on a device that keeps a list: that list, with or without what was in hand.
   pub opens : (m : Medium) (xs : List Instruction) (hand : Option Instruction) (v : View) → 0 < pairs → pairs ≤ 32767 → 1 + 2 * pairs ≤ m.size
-      → (h.book_kind securities).code < 256 → (h.book_kind cash).code < 256 → IsBounded m → Journal L m xs hand → Lawful h xs hand → v ≡ opened h m → OpenedOn h pairs m xs hand v
+      → (h.book_kind securities).code < 256 → (h.book_kind cash).code < 256 → IsBounded m → Journal L m xs hand → Lawful h xs hand → v ≡ opening_view h m → OpenedOn h pairs m xs hand v
   opens m xs hand v some few within r c b j lawful is =
       elim (cases_eq m.calls_left 0) [
         | inl z ↦

@@ -17,7 +17,7 @@ use Rattle.journal.specs.Blocks.{header_in}
 use Rattle.engine.specs.declared.engine.Mode.{Mode}
 use Rattle.engine.specs.declared.engine.Mode.TheVariants.{Open, Down, Refused}
 use Rattle.engine.specs.View.{View}
-use Rattle.engine.specs.Opening.{fitting, headed, header_held, header_answer, after_header, refused_as, opened}
+use Rattle.engine.specs.Opening.{fitting, headed, header_held, header_answer, after_header, refused_as, opening_view}
 use Rattle.engine.specs.Tracing.{block_read, entry_reads, list_reads, refused_reads, opened_reads, opening_calls}
 
 -- a check that answered well found a call left, and one that did not found none
@@ -221,7 +221,7 @@ module _ {D : Type 0} (makes : D → DeviceCall → D → Type 0) where
       → IsTrace makes (take (left + 1) (opened_reads v.mode v)) d e
   refused-traced left v f m d e is t = subst (λ (u : View). IsTrace makes (take (left + 1) (opened_reads u.mode u)) d e) (sym is) t
 
-  pub opening-traced : (h : Rulebook) (m : Medium) (v : View) (d e : D) → v ≡ opened h m → IsTrace makes (take (m.calls_left + 1) (block_read 0 ∷ opened_reads v.mode v)) d e
+  pub opening-traced : (h : Rulebook) (m : Medium) (v : View) (d e : D) → v ≡ opening_view h m → IsTrace makes (take (m.calls_left + 1) (block_read 0 ∷ opened_reads v.mode v)) d e
       → IsTrace makes (opening_calls h m) d e
   opening-traced h m v d e is t = subst (λ (u : View). IsTrace makes (take (m.calls_left + 1) (block_read 0 ∷ opened_reads u.mode u)) d e) is t
 
@@ -256,7 +256,7 @@ taken-read (suc n) (restarting left remains ∷ calls) e = absurd cc
 
 pub opening-reads : (h : Rulebook) (m : Medium) → only_reads (opening_calls h m) ≡ true
 opening-reads h m =
-    let v = opened h m in
+    let v = opening_view h m in
     taken-read (m.calls_left + 1) (block_read 0 ∷ opened_reads v.mode v) (opened-read v.mode v)
 
 -- what an opening went through were reads

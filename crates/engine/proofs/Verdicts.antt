@@ -7,7 +7,7 @@ use Rattle.refusals.specs.Numbers.{number_of as refusal_number}
 use Rattle.refusals.proofs.Numbered.{numbers_tell_apart}
 use Rattle.engine.specs.declared.slip.Verdict.{Verdict}
 use Rattle.engine.specs.declared.slip.Verdict.TheVariants.{Same, Stands, Unknown, Differs}
-use Rattle.engine.specs.Slips.{number_of, presented_number, PresentedApart}
+use Rattle.engine.specs.ClosingSlip.{number_of, presented_number, PresentedApart}
 
 -- the verdict with this number, if any has it
 abbrev verdict_at : ℕ → Verdict

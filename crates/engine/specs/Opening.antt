@@ -9,7 +9,7 @@ use Rattle.rulebook.specs.Rules.{Rulebook, Standing, empty}
 use Rattle.device.specs.Medium.{Medium}
 use Rattle.journal.specs.declared.header.Header.{Header}
 use Rattle.journal.specs.Blocks.{header_in}
-use Rattle.journal.specs.Format.{header_for as header_of}
+use Rattle.journal.specs.Format.{header_for_kinds as header_of}
 use Rattle.engine.specs.declared.engine.Mode.TheVariants.{Open, Refused}
 use Rattle.engine.specs.declared.engine.Recovered.{Recovered}
 use Rattle.engine.specs.View.{View}
@@ -42,10 +42,10 @@ after_header m = cond (nat_le m.size 0) m (drained 1 m)
 
 -- an engine whose opening was refused: books and trades are cleared
 abbrev pub refused_as : Fault → Medium → View
-refused_as f m = record { mode = Refused f; medium = m; standing = empty; pairs = 0; found = 0; last = None; count = 0 }
+refused_as f m = record { mode = Refused f; medium = m; standing = empty; pairs = 0; found = 0; last_found = None; entry_count = 0 }
 
 abbrev pub found_as : Recovered → ℕ → Medium → Standing → View
-found_as r pairs m s = record { mode = Open; medium = m; standing = s; pairs = pairs; found = r.count; last = r.last; count = r.count }
+found_as r pairs m s = record { mode = Open; medium = m; standing = s; pairs = pairs; found = r.count; last_found = r.last; entry_count = r.count }
 
 abbrev pub scanned_as : Result Recovered Fault → ℕ → Medium → Standing → View
 scanned_as (Ok r) pairs m s = found_as r pairs m s
@@ -59,12 +59,12 @@ opened_on h m (Err f) = refused_as f m
 opened_on h m (Ok pairs) = scanned_on pairs m (scan h pairs m 0 empty None)
 
 -- the engine that an opening of the device gives
-abbrev pub opened : Rulebook → Medium → View
-opened h m = opened_on h (after_header m) (header_answer (h.book_kind securities).code (h.book_kind cash).code m)
+abbrev pub opening_view : Rulebook → Medium → View
+opening_view h m = opened_on h (after_header m) (header_answer (h.book_kind securities).code (h.book_kind cash).code m)
 
 -- the header of a journal for these books, of so many pairs
-abbrev pub header_for : Rulebook → ℕ → Header
-header_for h pairs = header_of (h.book_kind securities).code (h.book_kind cash).code pairs
+abbrev pub header_for_books : Rulebook → ℕ → Header
+header_for_books h pairs = header_of (h.book_kind securities).code (h.book_kind cash).code pairs
 
 -- the last of a list, if any
 abbrev pub last_of : List Instruction → Option Instruction

@@ -15,8 +15,8 @@ use Rattle.journal.specs.Reading.{Proper}
 use Rattle.engine.specs.declared.engine.Mode.{Mode}
 use Rattle.engine.specs.declared.engine.Mode.TheVariants.{Open, Down, Refused}
 use Rattle.engine.specs.View.{View}
-use Rattle.engine.specs.Opening.{Fits, header_for, last_of}
-use Rattle.engine.specs.Lasting.{entry_in, listed}
+use Rattle.engine.specs.Opening.{Fits, header_for_books, last_of}
+use Rattle.engine.specs.Lasting.{entry_in, standing_list}
 
 abbrev pub GoodMark : Medium → ℕ → Type 0
 GoodMark m k = m.holds (mark_at k) ≡ Some (mark_bytes k)
@@ -25,21 +25,21 @@ GoodMark m k = m.holds (mark_at k) ≡ Some (mark_bytes k)
 -- entries: good marks, each with its record, and the list that those records say. The rules accept it
 -- one instruction after another, and it leads to s.
 pub record StandsOn (h : Rulebook) (m : Medium) (pairs n : ℕ) (s : Standing) : Type 0 where
-  pub head : m.holds 0 ≡ Some (header_bytes (header_for h pairs))
+  pub head : m.holds 0 ≡ Some (header_bytes (header_for_books h pairs))
   pub some : 0 < pairs
   pub fits : Fits pairs m
   pub within : n ≤ pairs
   pub marks : (k : ℕ) → k < n → GoodMark m k
   pub records : (k : ℕ) → k < n → m.holds (record_at k) ≡ Some (record_bytes k (entry_in m k))
-  pub list : Runs h (listed m n) s
+  pub list : Runs h (standing_list m n) s
 
 -- What an engine whose opening was answered 0 found: the entries up to the first mark that is not
 -- good, or to the last pair.
 pub record FoundOn (h : Rulebook) (m : Medium) (v : View) : Type 0 where
   pub entries : StandsOn h m v.pairs v.found v.standing
   pub stop : v.found < v.pairs → GoodMark m v.found → ⊥
-  pub last : v.last ≡ last_of (listed m v.found)
-  pub count : v.count ≡ v.found
+  pub last_found : v.last_found ≡ last_of (standing_list m v.found)
+  pub entry_count : v.entry_count ≡ v.found
 
 -- a fault with the number n that names the block b and the entry k, if any, no trade and no rule
 pub record IsFault (n : ℕ) (b k : Option ℕ) (f : Fault) : Type 0 where
@@ -113,8 +113,8 @@ pub record FoundNothing (v : View) : Type 0 where
   pub standing : v.standing ≡ empty
   pub pairs : v.pairs ≡ 0
   pub found : v.found ≡ 0
-  pub last : v.last ≡ None
-  pub count : v.count ≡ 0
+  pub last_found : v.last_found ≡ None
+  pub entry_count : v.entry_count ≡ 0
 
 -- by the mode after the opening; none ends with an instruction half written
 abbrev pub Opens : Rulebook → Medium → View → Mode → Type 0

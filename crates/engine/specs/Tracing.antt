@@ -13,8 +13,8 @@ use Rattle.engine.specs.declared.engine.Recovered.{Recovered}
 use Rattle.engine.specs.declared.engine.Mode.{Mode}
 use Rattle.engine.specs.declared.engine.Mode.TheVariants.{Open, Down, Refused}
 use Rattle.engine.specs.View.{View}
-use Rattle.engine.specs.Opening.{opened}
-use Rattle.engine.specs.Instructing.{checked}
+use Rattle.engine.specs.Opening.{opening_view}
+use Rattle.engine.specs.Instructing.{check_answer}
 
 -- those of an entry: record and sync, mark and sync, up to the first that finds no call left
 abbrev pub entry_calls : ℕ → Instruction → ℕ → List DeviceCall
@@ -22,7 +22,7 @@ entry_calls k x left = take (left + 1) (writing (record_at k) (record_bytes k x)
 
 -- those of an instruction: none where a check refuses it
 abbrev pub instruct_calls : Rulebook → Instruction → View → List DeviceCall
-instruct_calls h x v = if_ok (checked h x v) (entry_calls v.count x v.medium.calls_left) []
+instruct_calls h x v = if_ok (check_answer h x v) (entry_calls v.entry_count x v.medium.calls_left) []
 
 -- a read of a whole block
 abbrev pub block_read : ℕ → DeviceCall
@@ -65,4 +65,4 @@ opened_reads (Refused f) v = refused_reads f.entry
 -- no call left.
 abbrev pub opening_calls : Rulebook → Medium → List DeviceCall
 opening_calls h m =
-    let v = opened h m in take (m.calls_left + 1) (block_read 0 ∷ opened_reads v.mode v)
+    let v = opening_view h m in take (m.calls_left + 1) (block_read 0 ∷ opened_reads v.mode v)

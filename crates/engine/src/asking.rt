@@ -4,7 +4,7 @@ ghost use Rattle.rulebook.specs.Terms.{securities as in_securities, cash as in_c
 ghost use Rattle.ledger.specs.Rows.{state_question};
 ghost use Rattle.ledger.specs.View.{rulebook_of, holding_question};
 ghost use Rattle.engine.specs.View.{view};
-ghost use Rattle.engine.specs.Slips.{contents, Judges};
+ghost use Rattle.engine.specs.ClosingSlip.{contents, HasVerdict};
 ghost use Rattle.engine.specs.Asking.{opening_answer, if_answering, presented};
 
 use crate::engine::{Engine, Mode};
@@ -59,7 +59,7 @@ impl<D: Device, R: Book, C: Book> Engine<D, R, C> {
 
     // How many entries stand.
     pub fn entries(&self) -> Result<u32, Refusal>
-        ensures { let v = view D.medium self.now in result ≡ if_answering v.mode (Ok v.count) }
+        ensures { let v = view D.medium self.now in result ≡ if_answering v.mode (Ok v.entry_count) }
     {
         self.answering()?;
         Ok(self.count)
@@ -76,7 +76,7 @@ impl<D: Device, R: Book, C: Book> Engine<D, R, C> {
     pub fn present(&self, slip: Slip) -> Result<Verdict, (Refusal, Slip)>
         ensures answer { result ≡ presented (view D.medium self.now) slip }
         ensures exact { let v = view D.medium self.now in
-            IfOk result (λ verdict. Judges (contents slip) v.found v.last verdict) }
+            IfOk result (λ verdict. HasVerdict (contents slip) v.found v.last_found verdict) }
     {
         match self.mode {
             Mode::Refused(_) => Err((Refusal::OpeningRefused, slip)),

@@ -4,7 +4,7 @@ ghost use Rattle.journal.specs.Places.{EntryPlaces};
 ghost use Rattle.ledger.specs.View.{rulebook_of};
 ghost use Rattle.device.specs.Traces.{IsTrace};
 ghost use Rattle.engine.specs.View.{view};
-ghost use Rattle.engine.specs.Instructing.{checked, Instructed, CutShort};
+ghost use Rattle.engine.specs.Instructing.{check_answer, TakesInstruction, CutShort};
 ghost use Rattle.engine.specs.Tracing.{instruct_calls};
 
 use crate::engine::{Engine, Mode};
@@ -18,7 +18,7 @@ use rulebook::fault_about;
 impl<D: Device, R: Book, C: Book> Engine<D, R, C> {
     // The checks of an instruction, with nothing written.
     fn check(&self, x: &Instruction) -> Result<(), Fault>
-        ensures answer { result ≡ checked (rulebook_of R.book_kind C.book_kind) x.now (view D.medium self.now) }
+        ensures answer { result ≡ check_answer (rulebook_of R.book_kind C.book_kind) x.now (view D.medium self.now) }
         ensures room { IfOk result (λ _. self.now.count < self.now.pairs) }
     {
         match self.mode {
@@ -35,12 +35,12 @@ impl<D: Device, R: Book, C: Book> Engine<D, R, C> {
 
     // Carries out an instruction that the checks let pass, once its entry is written and firm.
     pub fn instruct(&mut self, x: &Instruction) -> Result<(), Fault>
-        ensures done { Instructed (rulebook_of R.book_kind C.book_kind) x.now
+        ensures done { TakesInstruction (rulebook_of R.book_kind C.book_kind) x.now
             (view D.medium self.old) (view D.medium self.new) result }
         ensures cut { CutShort (rulebook_of R.book_kind C.book_kind) x.now
             (view D.medium self.old) (view D.medium self.new) result }
         ensures places { let v = view D.medium self.old in result ≡ Ok tt
-            → EntryPlaces v.count x.now v.medium (view D.medium self.new).medium }
+            → EntryPlaces v.entry_count x.now v.medium (view D.medium self.new).medium }
         ensures trace { let v = view D.medium self.old in
             IsTrace D.makes (instruct_calls (rulebook_of R.book_kind C.book_kind) x.now v) self.old.device self.new.device }
     {

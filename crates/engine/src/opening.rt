@@ -2,7 +2,7 @@
 ghost use Rattle.std.specs.Prelude.{◌≡◌, ℕ, ◌+◌, ◌-◌, ◌*◌, ◌<◌, ◌≤◌, true, false, [], ◌∷◌, take, IfOk, None, Ok};
 ghost use Rattle.rulebook.specs.Rules.{empty};
 ghost use Rattle.ledger.specs.View.{rulebook_of, standing_of};
-ghost use Rattle.engine.specs.Opening.{header_answer, after_header, Fits, refused_as, opened_on, opened};
+ghost use Rattle.engine.specs.Opening.{header_answer, after_header, Fits, refused_as, opened_on, opening_view};
 ghost use Rattle.engine.specs.Recovery.{drained, mark_answer, record_answer, entry_answer, spent_by, leads_to, scan, Scanned};
 ghost use Rattle.engine.specs.Standing.{Opens, Prompt};
 ghost use Rattle.device.specs.Calls.{SameBlocks};
@@ -131,7 +131,7 @@ fn read_header<D: Device>(device: &mut D, register: u8, cash: u8) -> Result<u32,
 impl<D: Device, R: Book, C: Book> Engine<D, R, C> {
     // Moves the device and the books in, and always gives an engine, which keeps the opening's answer.
     pub fn open(mut device: D, register: R, cash: C) -> Self
-        ensures opened { view D.medium result ≡ opened (rulebook_of R.book_kind C.book_kind) (D.medium device) }
+        ensures opening_view { view D.medium result ≡ opening_view (rulebook_of R.book_kind C.book_kind) (D.medium device) }
         ensures found { let v = view D.medium result in
             Opens (rulebook_of R.book_kind C.book_kind) (D.medium device) v v.mode }
         ensures prompt { Prompt (rulebook_of R.book_kind C.book_kind) (D.medium device) (view D.medium result).mode }
@@ -152,7 +152,7 @@ impl<D: Device, R: Book, C: Book> Engine<D, R, C> {
     fn recovered(mut device: D, mut ledger: Ledger<R, C>, pairs: u32) -> Self
         requires fits { Fits pairs (D.medium device) }
         requires empty { standing_of ledger ≡ empty }
-        ensures opened { view D.medium result
+        ensures opening_view { view D.medium result
             ≡ opened_on (rulebook_of R.book_kind C.book_kind) (D.medium device) (Ok pairs) }
         ensures trace { let left = (D.medium device).calls_left in let v = view D.medium result in
             IsTrace D.makes (take (left + 1) (opened_reads v.mode v)) device result.device }

@@ -17,9 +17,9 @@ use Rattle.engine.specs.declared.engine.Mode.{Mode}
 use Rattle.engine.specs.declared.engine.Mode.TheVariants.{Open, Down, Refused}
 use Rattle.engine.specs.declared.slip.Contents.{Contents}
 use Rattle.engine.specs.View.{View}
-use Rattle.engine.specs.Opening.{opened}
-use Rattle.engine.specs.Asking.{opening_answer, told_by}
-use Rattle.engine.specs.Instructing.{LeftBy}
+use Rattle.engine.specs.Opening.{opening_view}
+use Rattle.engine.specs.Asking.{opening_answer, contents_by_mode}
+use Rattle.engine.specs.Instructing.{Leaves}
 use Rattle.depository.specs.Orders.{Order, to_instruct, to_close, to_restart, to_open, to_ask}
 use Rattle.depository.specs.declared.calls.Question.TheVariants.{Securities, Money}
 use Rattle.depository.specs.declared.calls.Fact.TheVariants.{Holding as HoldingFact}
@@ -49,12 +49,12 @@ record Ready (a : Moment) : Type 0 where
   is : a ≡ at (running v) l
   owed : Owed v.mode l
 
-owed-left : (c w : EngineAnswer) (x : Instruction) (v v' : View) (l : Option Contents) → LeftBy c w x v v' → Owed v.mode l → Owed v'.mode l
+owed-left : (c w : EngineAnswer) (x : Instruction) (v v' : View) (l : Option Contents) → Leaves c w x v v' → Owed v.mode l → Owed v'.mode l
 owed-left (Err f) w x v v' l e o = subst (λ z. Owed z.mode l) (sym e) o
 owed-left (Ok u) (Ok w) x v v' l a o = subst (λ z. Owed z l) (sym a.mode) tt
 owed-left (Ok u) (Err f) x v v' l a o = subst (λ z. Owed z l) (sym a.mode) tt
 
-owed-kept : (m : Mode) (n : ℕ) (l : Option Contents) → Owed m l → is_some (latest (told_by m n) l) ≡ true
+owed-kept : (m : Mode) (n : ℕ) (l : Option Contents) → Owed m l → is_some (latest (contents_by_mode m n) l) ≡ true
 owed-kept Open n l o = refl
 owed-kept (Down x) n l o = refl
 owed-kept (Refused f) n l o = o
@@ -110,11 +110,11 @@ module _ (h : Rulebook) (most : ℕ) where
   reopened : {a d : Moment} {t : Reply} (b c : Moment) (r s : Reply) (q : ℕ) (remains : List ℕ) → Ready a → Does h most a to_close r b → Does h most b (to_restart q remains) s c → Does h most c to_open t d → Went t d
   reopened {a} {d} {t} b c r s q remains y closes restarts opens =
       let e = subst (λ z. Does h most z to_close r b) y.is closes in
-      let slip = owed-kept y.v.mode y.v.count y.l y.owed in
+      let slip = owed-kept y.v.mode y.v.entry_count y.l y.owed in
       let f = subst (λ z. Does h most z (to_restart q remains) s c) e.leads restarts in
       let g = subst (λ z. Does h most z to_open t d) f.leads.leads opens in
-      let v = opened h f.after in
-      went g (presented-some v.mode v.found v.last _ slip) (record { v = v; l = _; is = refl; owed = owed-opened v.mode _ slip })
+      let v = opening_view h f.after in
+      went g (presented-some v.mode v.found v.last_found _ slip) (record { v = v; l = _; is = refl; owed = owed-opened v.mode _ slip })
 
   -- the first call of a path, and the rest of it
   record Next {D : Type 0} (makes : D → DeviceCall → D → Type 0) (means : D → Medium) (a : Moment) (d : D) (c : Order) (cs : List Order) (rs : List Reply) (b : Moment) (e : D) : Type 0 where
@@ -156,7 +156,7 @@ module _ (h : Rulebook) (most : ℕ) where
     -- a first opening that is answered 0 leaves an engine
     first : (m : Medium) (books : Side → Holdings) (r : Reply) (b : Moment) → Does h most (at (shut m books) None) to_open r b → OpenedWell r → Ready b
     first m books r b d well =
-        let v = opened h m in
+        let v = opening_view h m in
         let same = same-reply (sym d.answer ∙ well.1) in
         subst Ready (sym d.leads) (record { v = v; l = _; is = refl; owed = owed-well v.mode _ (ap (λ (o : Opened). o.answer) same ∙ well.2) })
 

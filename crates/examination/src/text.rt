@@ -1,6 +1,6 @@
 // The key as text. Functions, and no `Display`, since a contract says which bytes each text is.
 ghost use Rattle.std.specs.Prelude.{◌≡◌, IfOk, string_bytes};
-ghost use Rattle.engine.specs.Slips.{presented_number};
+ghost use Rattle.engine.specs.ClosingSlip.{presented_number};
 ghost use Rattle.examination.specs.Texts.{line_text, key_text, refused_text};
 ghost use Rattle.examination.specs.declared.answer.Answer.TheVariants.{Reopened};
 

@@ -3,9 +3,9 @@ use Rattle.std.proofs.Common.{◌≡◌, ℕ, ◌+◌, ◌-◌, ◌<◌, ◌≤�
 use Rattle.std.proofs.lemmas.Bool.{cases_lt}
 use Rattle.device.specs.Medium.{Medium}
 use Rattle.journal.specs.declared.header.Header.{Header}
-use Rattle.journal.specs.Blocks.{zeros, header_bytes, layout}
+use Rattle.journal.specs.Blocks.{zeros, header_bytes, journal_blocks}
 use Rattle.journal.specs.Journal.{mark_at, Blank, Journal}
-use Rattle.journal.specs.Format.{Unmarked, Formatted, Kept, Blanked}
+use Rattle.journal.specs.Format.{Unmarked, Formats, Kept, Blanked}
 use Rattle.journal.proofs.Trips.{zeros-no-mark}
 
 -- no mark is in the header's block
@@ -51,7 +51,7 @@ module _ (header : List ℕ) (pairs : ℕ) {m₀ m₁ m₂ m₃ : Medium} (one :
   unreached-firm k l h f =
       ⊎_elim (λ (e : m₀.calls_left < 2). ap (λ (m : Medium). m.loose (mark_at k)) (early e) ∙ f) (λ (g : 2 ≤ m₀.calls_left). two.unreached-firm k l (omega (arith, one.calls_left)) f) (cases_lt m₀.calls_left 2)
 
-  stepwise : Formatted header pairs m₀ m₃
+  stepwise : Formats header pairs m₀ m₃
   stepwise = record {
     size = three.size ∙ two.size ∙ one.size;
     calls_left = omega (arith, three.calls_left, spent);
@@ -69,26 +69,26 @@ module _ (header : List ℕ) (pairs : ℕ) {m₀ m₁ m₂ m₃ : Medium} (one :
 
 -- by the step that the calls lasted to
 module _ (header : List ℕ) (pairs : ℕ) {m₀ m₁ : Medium} (one : Kept 0 zeros m₀ m₁) where
-  pub cut-first : m₀.calls_left < 2 → Formatted header pairs m₀ m₁
+  pub cut-first : m₀.calls_left < 2 → Formats header pairs m₀ m₁
   cut-first l =
       let none : m₁.calls_left ≡ 0 = omega (arith, one.calls_left) in
       stepwise header pairs one (blank-none pairs m₁ none) (keep-none 0 header m₁ none) (λ h. refl) (λ h. refl)
 
   module _ (begun : 2 ≤ m₀.calls_left) {m₂ : Medium} (two : Blanked pairs m₁ m₂) where
-    pub cut-second : m₀.calls_left < pairs + 3 → Formatted header pairs m₀ m₂
+    pub cut-second : m₀.calls_left < pairs + 3 → Formats header pairs m₀ m₂
     cut-second l =
         let none : m₂.calls_left ≡ 0 = omega (arith, one.calls_left, two.calls_left) in
         stepwise header pairs one two (keep-none 0 header m₂ none) (λ h. absurd (omega arith)) (λ h. refl)
 
-    pub all-steps : pairs + 3 ≤ m₀.calls_left → {m₃ : Medium} → Kept 0 header m₂ m₃ → Formatted header pairs m₀ m₃
+    pub all-steps : pairs + 3 ≤ m₀.calls_left → {m₃ : Medium} → Kept 0 header m₂ m₃ → Formats header pairs m₀ m₃
     all-steps l three = stepwise header pairs one two three (λ h. absurd (omega arith)) (λ h. absurd (omega arith))
 
 some-is : {x y : List ℕ} → Some x ≡ Some y → x ≡ y
 some-is e = cc
 
-pub fresh-journal : (h : Header) (m m' : Medium) → h.pairs < 32768 → h.pairs + 4 < m.calls_left → Formatted (header_bytes h) h.pairs m m' → Journal (layout h) m' [] None
+pub fresh-journal : (h : Header) (m m' : Medium) → h.pairs < 32768 → h.pairs + 4 < m.calls_left → Formats (header_bytes h) h.pairs m m' → Journal (journal_blocks h) m' [] None
 fresh-journal h m m' few calls f =
-    let blank : (k : ℕ) → k < h.pairs → Blank (layout h) m' k =
+    let blank : (k : ℕ) → k < h.pairs → Blank (journal_blocks h) m' k =
     λ k l. (λ good. zeros-no-mark k (omega arith) (some-is (sym (f.unmarked k l (omega arith)) ∙ good)), f.firm calls (mark_at k)) in
     record {
       head = (f.headed (omega arith), f.firm calls 0);

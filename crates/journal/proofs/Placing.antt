@@ -8,8 +8,8 @@ use Rattle.instruction.specs.declared.Instruction.{Instruction}
 use Rattle.instruction.specs.Layout.{bytes_of}
 use Rattle.journal.specs.declared.header.Header.{Header}
 use Rattle.journal.specs.Blocks.{zeros, header_bytes, record_bytes, mark_bytes}
-use Rattle.journal.specs.Journal.{Entered}
-use Rattle.journal.specs.Format.{header_for, Formatted}
+use Rattle.journal.specs.Journal.{WritesEntry}
+use Rattle.journal.specs.Format.{header_for_kinds, Formats}
 use Rattle.journal.specs.Places.{ZeroFrom, HeaderPlaces, RecordPlaces, MarkPlaces, FormatPlaces, EntryPlaces}
 
 -- a read of zeros, and past their end
@@ -61,10 +61,10 @@ header-placed h l =
     }
 
 -- a format that was answered 0
-pub format-placed : (register cash pairs : ℕ) (m m' : Medium) → pairs < 2 ^ 32 → pairs + 4 < m.calls_left → Formatted (header_bytes (header_for register cash pairs)) pairs m m' → FormatPlaces register cash pairs m m'
+pub format-placed : (register cash pairs : ℕ) (m m' : Medium) → pairs < 2 ^ 32 → pairs + 4 < m.calls_left → Formats (header_bytes (header_for_kinds register cash pairs)) pairs m m' → FormatPlaces register cash pairs m m'
 format-placed register cash pairs m m' few calls f =
     record {
-      head = (header_bytes (header_for register cash pairs), f.headed (omega arith), header-placed (header_for register cash pairs) few);
+      head = (header_bytes (header_for_kinds register cash pairs), f.headed (omega arith), header-placed (header_for_kinds register cash pairs) few);
       even = λ j l h. (
         zeros,
         ap m'.holds (omega arith) ∙ f.unmarked (j - 1) (omega arith) (omega arith),
@@ -76,7 +76,7 @@ format-placed register cash pairs m m' few calls f =
     }
 
 -- an entry that was written whole
-pub entry-placed : (k : ℕ) (x : Instruction) (m m' : Medium) → k < 2 ^ 32 → 3 < m.calls_left → Entered (record_bytes k x) (mark_bytes k) k m m' → EntryPlaces k x m m'
+pub entry-placed : (k : ℕ) (x : Instruction) (m m' : Medium) → k < 2 ^ 32 → 3 < m.calls_left → WritesEntry (record_bytes k x) (mark_bytes k) k m m' → EntryPlaces k x m m'
 entry-placed k x m m' low calls e =
     record {
       entry = (record_bytes k x, ap m'.holds (omega arith) ∙ e.recorded (omega arith), record-placed k x low);

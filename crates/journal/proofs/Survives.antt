@@ -5,7 +5,7 @@ use Rattle.std.proofs.lemmas.List.{length_push, get_or_push, get_or_append_left}
 use Rattle.device.specs.Medium.{Medium}
 use Rattle.device.specs.Calls.{SameBlocks}
 use Rattle.device.specs.Power.{Restart}
-use Rattle.journal.specs.Journal.{Layout, Firm, mark_at, record_at, Good, Blank, Tail, Says, Journal, Entered}
+use Rattle.journal.specs.Journal.{JournalBlocks, Firm, mark_at, record_at, Good, Blank, Tail, Says, Journal, WritesEntry}
 
 -- a block that is not loose keeps what it holds, and stays so
 abbrev pub Steady : Medium → Medium → ℕ → Type 0
@@ -20,7 +20,7 @@ steady-look m n r c e = (r.holds c, r.loose c ∙ e)
 firm-stays : (m n : Medium) (c : ℕ) (bs : List ℕ) → Steady m n c → Firm m c bs → Firm n c bs
 firm-stays m n c bs s f = let t = s f.1 in (t.0 ∙ f.0, t.1)
 
-module _ {X : Type 0} (L : Layout X) where
+module _ {X : Type 0} (L : JournalBlocks X) where
   -- what an opening that reads all of its journal finds
   pub record Found (m : Medium) (ys : List X) : Type 0 where
     pub room : length ys ≤ L.pairs
@@ -68,7 +68,7 @@ module _ {X : Type 0} (L : Layout X) where
         tail = λ b. rw p (j.beyond (length xs + 1) (omega arith) (omega arith));
       }
 
-  module _ (m n : Medium) (xs : List X) (x : X) (room : length xs < L.pairs) (fits : L.read (length xs) (L.entry (length xs) x) ≡ Some x) (e : Entered (L.entry (length xs) x) (L.mark (length xs)) (length xs) m n) where
+  module _ (m n : Medium) (xs : List X) (x : X) (room : length xs < L.pairs) (fits : L.read (length xs) (L.entry (length xs) x) ≡ Some x) (e : WritesEntry (L.entry (length xs) x) (L.mark (length xs)) (length xs) m n) where
     around : (c : ℕ) → (c ≡ record_at (length xs) → ⊥) → (c ≡ mark_at (length xs) → ⊥) → Steady m n c
     around c a b f = (e.holds c a b, e.loose c a b f)
 

@@ -7,7 +7,7 @@ use Rattle.refusals.specs.Numbers.{numbered}
 use Rattle.instruction.specs.declared.Instruction.{Instruction}
 use Rattle.instruction.specs.Layout.{bytes_of, instruction_in, number_at}
 use Rattle.journal.specs.declared.header.Header.{Header}
-use Rattle.journal.specs.Journal.{Layout}
+use Rattle.journal.specs.Journal.{JournalBlocks}
 
 abbrev pub zeros : List ℕ
 zeros = replicate 256 0
@@ -51,8 +51,8 @@ abbrev pub no_instruction : Instruction
 no_instruction = record { kind = 0; account = 0; counterparty = 0; item = 0; currency = 0; trade = 0; quantity = 0; amount = 0 }
 
 -- how the engine's entries are written
-abbrev pub layout : Header → Layout Instruction
-layout h = record {
+abbrev pub journal_blocks : Header → JournalBlocks Instruction
+journal_blocks h = record {
   pairs = h.pairs;
   header = header_bytes h;
   mark = mark_bytes;

@@ -8,8 +8,8 @@ use Rattle.journal.specs.declared.header.Header.{Header}
 use Rattle.journal.specs.Blocks.{zeros}
 use Rattle.journal.specs.Journal.{mark_at}
 
-abbrev pub header_for : ℕ → ℕ → ℕ → Header
-header_for register cash pairs = record { register = register; cash = cash; pairs = pairs }
+abbrev pub header_for_kinds : ℕ → ℕ → ℕ → Header
+header_for_kinds register cash pairs = record { register = register; cash = cash; pairs = pairs }
 
 -- no journal has so many pairs, or the device has too few blocks for them
 abbrev pub no_room : ℕ → ℕ → Bool
@@ -37,7 +37,7 @@ Apart pairs b = (b ≢ 0) × Unmarked pairs b
 
 -- What the calls of a format leave, given the bytes of its header, however many of them there was power for. No mark is
 -- touched until the header is safely gone, and no header is written until no mark stands.
-pub record Formatted (header : List ℕ) (pairs : ℕ) (m m' : Medium) : Type 0 where
+pub record Formats (header : List ℕ) (pairs : ℕ) (m m' : Medium) : Type 0 where
   pub size : m'.size ≡ m.size
   pub calls_left : m'.calls_left ≡ m.calls_left - (pairs + 5)
   pub holds : (b : ℕ) → Apart pairs b → m'.holds b ≡ m.holds b

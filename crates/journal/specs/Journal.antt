@@ -5,7 +5,7 @@ use Rattle.device.specs.Medium.{Medium}
 use Rattle.device.specs.Calls.{Answer}
 
 -- how entries of any sort are written: the header's bytes, a mark's and a record's
-pub record Layout (X : Type 0) : Type 0 where
+pub record JournalBlocks (X : Type 0) : Type 0 where
   pub pairs : ℕ
   pub header : List ℕ
   pub mark : ℕ → List ℕ
@@ -26,8 +26,8 @@ abbrev pub Firm : Medium → ℕ → List ℕ → Type 0
 Firm m b bs = (m.holds b ≡ Some bs) × (m.loose b ≡ false)
 
 -- the answer to the four calls of an entry, by the calls left: its record, a sync, its mark, a sync
-abbrev pub enter_answer : Medium → ℕ → Answer
-enter_answer m k =
+abbrev pub write_entry_answer : Medium → ℕ → Answer
+write_entry_answer m k =
     cond (m.calls_left == 0) (Err (fault_at 13 (record_at k)))
     (cond (m.calls_left == 1) (Err (fault 13))
     (cond (m.calls_left == 2) (Err (fault_at 13 (mark_at k)))
@@ -35,7 +35,7 @@ enter_answer m k =
 
 -- What the four calls of entry k leave, given the bytes of its record and of its mark, however many of the calls
 -- there was power for: the mark is touched only once the record is safe.
-pub record Entered (entry mark : List ℕ) (k : ℕ) (m m' : Medium) : Type 0 where
+pub record WritesEntry (entry mark : List ℕ) (k : ℕ) (m m' : Medium) : Type 0 where
   pub size : m'.size ≡ m.size
   pub calls_left : m'.calls_left ≡ m.calls_left - 4
   pub holds : (b : ℕ) → (b ≢ record_at k) → (b ≢ mark_at k) → m'.holds b ≡ m.holds b
@@ -47,7 +47,7 @@ pub record Entered (entry mark : List ℕ) (k : ℕ) (m m' : Medium) : Type 0 wh
   pub marked : 2 < m.calls_left → m'.holds (mark_at k) ≡ Some mark
   pub firm : 3 < m.calls_left → (b : ℕ) → m'.loose b ≡ false
 
-module _ {X : Type 0} (L : Layout X) where
+module _ {X : Type 0} (L : JournalBlocks X) where
   abbrev pub Good : Medium → ℕ → Type 0
   Good m k = m.holds (mark_at k) ≡ Some (L.mark k)
 

@@ -2,10 +2,10 @@
 // them, each with a sync: so no header ever stands over marks of which only some are replaced.
 ghost use Rattle.std.specs.Prelude.{◌≡◌, ◌+◌, ◌*◌, ◌<◌, ◌≤◌, true, false, [], ◌∷◌, ◌++◌, take, None, Ok};
 ghost use Rattle.device.specs.Traces.{IsTrace, writing, syncing};
-ghost use Rattle.journal.specs.Blocks.{header_bytes, layout};
+ghost use Rattle.journal.specs.Blocks.{header_bytes, journal_blocks};
 ghost use Rattle.journal.specs.Journal.{Journal};
 ghost use Rattle.journal.specs.Places.{FormatPlaces};
-ghost use Rattle.journal.specs.Format.{header_for, no_room, format_answer, Formatted, keep_answer, Kept, blank_answer, Blanked, mark_writes, format_calls};
+ghost use Rattle.journal.specs.Format.{header_for_kinds, no_room, format_answer, Formats, keep_answer, Kept, blank_answer, Blanked, mark_writes, format_calls};
 
 use crate::header::{Header, MOST_PAIRS};
 use device::{BLOCK_SIZE, Device};
@@ -46,14 +46,14 @@ pub fn format<D: Device>(device: &mut D, pairs: u32, register: u8, cash: u8) -> 
     ensures refused { no_room pairs (D.medium device.old).size ≡ true
         → D.medium device.new ≡ D.medium device.old }
     ensures after { no_room pairs (D.medium device.old).size ≡ false
-        → Formatted (header_bytes (header_for register cash pairs)) pairs
+        → Formats (header_bytes (header_for_kinds register cash pairs)) pairs
         (D.medium device.old) (D.medium device.new) }
-    ensures trace { IsTrace D.makes (format_calls (header_bytes (header_for register cash pairs)) pairs
+    ensures trace { IsTrace D.makes (format_calls (header_bytes (header_for_kinds register cash pairs)) pairs
         (D.medium device.old).size (D.medium device.old).calls_left) device.old device.new }
     ensures places { result ≡ Ok tt
         → FormatPlaces register cash pairs (D.medium device.old) (D.medium device.new) }
     ensures journal { result ≡ Ok tt
-        → Journal (layout (header_for register cash pairs)) (D.medium device.new) [] None }
+        → Journal (journal_blocks (header_for_kinds register cash pairs)) (D.medium device.new) [] None }
 {
     if pairs < 1 || pairs > MOST_PAIRS || device.size() < 1 + 2 * pairs {
         return Err(Refusal::NoRoom.into());

@@ -8,7 +8,7 @@ use Rattle.journal.proofs.Placing.{entry-placed}
 use Rattle.engine.specs.View.{view}
 use Rattle.engine.proofs.Instructs.{carried-out, let-pass}
 use Rattle.engine.proofs.Cuts.{enter-done, cut-short, cut-down}
-use Rattle.engine.specs.Instructing.{checked, Instructed}
+use Rattle.engine.specs.Instructing.{check_answer, TakesInstruction}
 use Rattle.engine.specs.Tracing.{entry_calls}
 use Rattle.engine.proofs.engine.Engine.instruct.Goals as goal
 
@@ -23,8 +23,8 @@ returns-clause-done g c =
       standing = c.instruct.ensures.by_rules.after ∙ accepted h v.standing x p.accepted;
       pairs = refl;
       found = refl;
-      last = refl;
-      count = refl;
+      last_found = refl;
+      entry_count = refl;
     })
 
 pub returns-in-Err-clause-trace : goal.returns-in-Err-clause-trace
@@ -32,14 +32,14 @@ returns-in-Err-clause-trace g c =
     let h = rulebook_of g.R.Book.book_kind g.C.Book.book_kind in
     let x = c.args.x.now in
     let v = view g.D.Device.medium c.args.self.now in
-    let passed : checked h x v ≡ Ok tt = search rules in
-    subst (λ a. IsTrace g.D.Device.makes (if_ok a (entry_calls v.count x v.medium.calls_left) []) c.args.self.now.device c.enter.new.device) (sym passed) c.in-Err.ensures.trace
+    let passed : check_answer h x v ≡ Ok tt = search rules in
+    subst (λ a. IsTrace g.D.Device.makes (if_ok a (entry_calls v.entry_count x v.medium.calls_left) []) c.args.self.now.device c.enter.new.device) (sym passed) c.in-Err.ensures.trace
 
 pub returns-in_err-check-clause-cut : goal.returns-in_err-check-clause-cut
 returns-in_err-check-clause-cut g c =
     let h = rulebook_of g.R.Book.book_kind g.C.Book.book_kind in
     let v = view g.D.Device.medium c.args.self.now in
-    let done : Instructed h c.args.x.now v v c.from_residual.result = search rules in
+    let done : TakesInstruction h c.args.x.now v v c.from_residual.result = search rules in
     cut-short h c.args.x.now v v done
 
 pub returns-in-Err-clause-cut : goal.returns-in-Err-clause-cut
@@ -47,7 +47,7 @@ returns-in-Err-clause-cut g c =
     let h = rulebook_of g.R.Book.book_kind g.C.Book.book_kind in
     let x = c.args.x.now in
     let v = view g.D.Device.medium c.args.self.now in
-    let passed : checked h x v ≡ Ok tt = search rules in
+    let passed : check_answer h x v ≡ Ok tt = search rules in
     let answered = c.in-Err.ensures.answer in
     cut-down h x v _ (let-pass (sym passed)) (sym answered) (ap (λ f. Err f) (c.fault_about.ensures.value ∙ ap (fault_about x) c.in_entry.ensures)) refl
 
@@ -55,4 +55,4 @@ pub returns-clause-places : goal.returns-clause-places
 returns-clause-places g c done =
     let v = view g.D.Device.medium c.args.self.now in
     let is : c.enter.result ≡ Ok tt = search rules in
-    entry-placed v.count c.args.x.now v.medium _ (search rules) (enter-done v.medium v.count (sym c.enter.ensures.answer ∙ is)) c.enter.ensures.after
+    entry-placed v.entry_count c.args.x.now v.medium _ (search rules) (enter-done v.medium v.entry_count (sym c.enter.ensures.answer ∙ is)) c.enter.ensures.after

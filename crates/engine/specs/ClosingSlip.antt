@@ -56,13 +56,13 @@ is_last (Some x) None = false
 is_last None last = false
 
 -- the verdict on a slip where n entries were found, the last of them as said
-abbrev pub judged : Option Contents → ℕ → Option Instruction → Verdict
-judged None n last = Unknown
-judged (Some s) n last = cond (n == s.entries) Same (cond (n == s.entries + 1 && is_last s.hand last) Stands Differs)
+abbrev pub slip_verdict : Option Contents → ℕ → Option Instruction → Verdict
+slip_verdict None n last = Unknown
+slip_verdict (Some s) n last = cond (n == s.entries) Same (cond (n == s.entries + 1 && is_last s.hand last) Stands Differs)
 
 -- The same in words.
-abbrev pub Judges : Option Contents → ℕ → Option Instruction → Verdict → Type 0
-Judges s n last Unknown = s ≡ None
-Judges s n last Same = (c : Contents) × (s ≡ Some c) × (n ≡ c.entries)
-Judges s n last Stands = (c : Contents) × (s ≡ Some c) × (n ≡ c.entries + 1) × ((x : Instruction) × (c.hand ≡ Some x) × (last ≡ Some x))
-Judges s n last Differs = (c : Contents) × (s ≡ Some c) × (n ≢ c.entries) × ((x : Instruction) → n ≡ c.entries + 1 → c.hand ≡ Some x → last ≢ Some x)
+abbrev pub HasVerdict : Option Contents → ℕ → Option Instruction → Verdict → Type 0
+HasVerdict s n last Unknown = s ≡ None
+HasVerdict s n last Same = (c : Contents) × (s ≡ Some c) × (n ≡ c.entries)
+HasVerdict s n last Stands = (c : Contents) × (s ≡ Some c) × (n ≡ c.entries + 1) × ((x : Instruction) × (c.hand ≡ Some x) × (last ≡ Some x))
+HasVerdict s n last Differs = (c : Contents) × (s ≡ Some c) × (n ≢ c.entries) × ((x : Instruction) → n ≡ c.entries + 1 → c.hand ≡ Some x → last ≢ Some x)
