@@ -128,7 +128,7 @@ fn check<D: DeviceKind, R: Register>(rt: &HostRuntime, cut: Cut) -> io::Result<b
             }
             Ok(same && owed.is_none())
         }
-        Err(Stop::Refused(fault)) => {
+        Err(Stop::ByFault(fault)) => {
             println!(rt; "  {cut:?}: the format was refused {}", fault.number())?;
             Ok(false)
         }

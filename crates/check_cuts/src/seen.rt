@@ -1,6 +1,6 @@
 // What is seen of a reply: the numbers that operators know, and amounts.
 use book::Holding;
-use depository::{Fact, Opened, Reply};
+use depository::{Fact, OpenReply, Reply};
 use engine::Verdict;
 use refusals::{Refusal, fault_number};
 use rulebook::State;
@@ -29,12 +29,12 @@ fn verdict_number(presented: Result<Verdict, Refusal>) -> u8 {
     }
 }
 
-impl From<Opened> for Seen {
-    fn from(opened: Opened) -> Seen {
+impl From<OpenReply> for Seen {
+    fn from(opened: OpenReply) -> Seen {
         Seen::Opened {
             answer: fault_number(opened.answer),
             found: opened.found,
-            presented: opened.presented.map(verdict_number),
+            presented: opened.slip_answer.map(verdict_number),
         }
     }
 }
@@ -54,9 +54,9 @@ impl From<Reply> for Seen {
     fn from(reply: Reply) -> Seen {
         match reply {
             Reply::Done => Seen::Done,
-            Reply::Instructed(answer) => Seen::Answer(fault_number(answer)),
-            Reply::Opened(opened) => opened.into(),
-            Reply::Told(told) => told.into(),
+            Reply::ToInstruct(answer) => Seen::Answer(fault_number(answer)),
+            Reply::ToOpen(opened) => opened.into(),
+            Reply::ToAsk(told) => told.into(),
             Reply::Misfit => Seen::Misfit,
         }
     }

@@ -24,11 +24,11 @@ use Rattle.engine.specs.Lasting.{blocks_for_books}
 use Rattle.engine.proofs.Keeping.{WithOrWithout, Holding, FoundBy}
 use Rattle.engine.proofs.Finds.{last-more}
 use Rattle.engine.proofs.Openings.{opens}
-use Rattle.depository.specs.declared.calls.Opened.{Opened}
-use Rattle.depository.specs.Slips.{latest}
-use Rattle.depository.specs.Calling.{slip_answer, owed_after}
+use Rattle.depository.specs.declared.calls.OpenReply.{OpenReply}
+use Rattle.depository.specs.OwedSlip.{newest_known}
+use Rattle.depository.specs.Calling.{slip_answer, owed_after_open}
 use Rattle.depository.specs.Tally.{Tally, fed_opening, with_hand}
-use Rattle.depository.specs.Law.{Judged}
+use Rattle.depository.specs.Survival.{Judged}
 use Rattle.depository.proofs.Kept.{Matches, Paired, OnDevice, InEngine, KeptBy}
 
 nothing-is-some : {X : Type 0} {x : X} → ◌≡◌ {A = Option X} None (Some x) → ⊥
@@ -59,7 +59,7 @@ judged-stands c n last x e eh el =
 
 module _ (h : Rulebook) (pairs : ℕ) (t : Tally) where
   -- a close gives a slip that matches, or the one that was owed
-  pub closed : (v : View) (l : Option Contents) (m : Mode) → KeptBy h pairs t v l m → OnDevice h pairs t v.medium × Matches (latest (contents_by_mode m v.entry_count) l) t
+  pub closed : (v : View) (l : Option Contents) (m : Mode) → KeptBy h pairs t v l m → OnDevice h pairs t v.medium × Matches (newest_known (contents_by_mode m v.entry_count) l) t
   closed v l Open k = (k.1.device, (k.1.entry_count, sym k.0))
   closed v l (Down x) k = (k.1.device, (k.1.entry_count, sym k.0))
   closed v l (Refused f) k = k
@@ -72,8 +72,8 @@ module _ (h : Rulebook) (pairs : ℕ) (t : Tally) where
   }
 
   -- what is answered to the open that gave an engine
-  abbrev answered : Mode → View → Option Contents → Opened
-  answered m v l = record { answer = opening_answer m; found = v.found; presented = slip_answer m v.found v.last_found l }
+  abbrev answered : Mode → View → Option Contents → OpenReply
+  answered m v l = record { answer = opening_answer m; found = v.found; slip_answer = slip_answer m v.found v.last_found l }
 
   -- what an opening answered 0 found is what the verdict on the slip has the tally take
   pub record Agrees (l : Option Contents) (v : View) (ys : List Instruction) : Type 0 where
@@ -129,13 +129,13 @@ module _ (h : Rulebook) (pairs : ℕ) (t : Tally) where
 
   -- what an opening makes of a tally that the device kept
   pub record Reopened (m : Medium) (l : Option Contents) (v : View) : Type 0 where
-    pub kept : KeptBy h pairs (fed_opening t (opening_answer v.mode) (slip_answer v.mode v.found v.last_found l)) v (owed_after v.mode l) v.mode
+    pub kept : KeptBy h pairs (fed_opening t (opening_answer v.mode) (slip_answer v.mode v.found v.last_found l)) v (owed_after_open v.mode l) v.mode
     pub judged : opening_answer v.mode ≡ Ok tt → Judged l (answered v.mode v l) v
     pub refused : (f : Fault) → opening_answer v.mode ≡ Err f → number_of f.refusal ≡ 13
     pub prompt : 1 + 2 * pairs ≤ m.calls_left → opening_answer v.mode ≡ Ok tt
 
   abbrev KeptAs : Option Contents → View → Mode → Type 0
-  KeptAs l v m = KeptBy h pairs (fed_opening t (opening_answer m) (slip_answer m v.found v.last_found l)) v (owed_after m l) m × Says l v m
+  KeptAs l v m = KeptBy h pairs (fed_opening t (opening_answer m) (slip_answer m v.found v.last_found l)) v (owed_after_open m l) m × Says l v m
 
   kept-as : (w : Medium) (l : Option Contents) (v : View) (m : Mode) → OnDevice h pairs t w → Matches l t → 1 + 2 * pairs ≤ v.medium.size → FoundBy h pairs t.list t.hand v m → KeptAs l v m
   kept-as w l v Open k ml size (ys, either, g) =

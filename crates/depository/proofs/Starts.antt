@@ -16,10 +16,10 @@ use Rattle.journal.specs.Format.{no_room, format_answer, header_for_kinds as for
 use Rattle.engine.specs.Opening.{header_for_books}
 use Rattle.depository.specs.declared.calls.Reply.{Reply}
 use Rattle.depository.specs.Orders.{Order}
-use Rattle.depository.specs.Moments.{Moment, shut, at}
+use Rattle.depository.specs.Moments.{Moment, shut, moment_in}
 use Rattle.depository.specs.Tally.{fresh}
 use Rattle.depository.specs.Paths.{Path}
-use Rattle.depository.specs.Law.{AfterFormat, Survives}
+use Rattle.depository.specs.Survival.{AfterFormat, Survives}
 use Rattle.depository.proofs.Kept.{Paired, Kept}
 use Rattle.depository.proofs.Survival.{law, beyond}
 
@@ -54,7 +54,7 @@ module _ {D : Type 0} (makes : D → DeviceCall → D → Type 0) (means : D →
 
   pub after-format : AfterFormat makes means h pairs d r e
   after-format = record {
-    format = sym is;
+    answer = sym is;
     refused = λ n. sym (subst (λ b. IsTrace makes (cond b [] (made (means d).calls_left)) d e) n trace);
     after = λ n. subst (λ head. Formats (header_bytes head) pairs (means d) (means e)) (same-header h a b pairs ea eb) (after n);
     trace = subst (λ head. IsTrace makes (format_calls (header_bytes head) pairs (means d).size (means d).calls_left) d e) (same-header h a b pairs ea eb) trace;
@@ -67,26 +67,26 @@ format-calls pairs m e = grind (arith, e)
 module _ {D : Type 0} (makes : D → DeviceCall → D → Type 0) (means : D → Medium) (h : Rulebook) (most pairs : ℕ) (d : D) (books : Side → Holdings) (c₁ : (h.book_kind securities).code < 256) (c₂ : (h.book_kind cash).code < 256) (bounds : (x : D) → IsBounded (means x)) where
   module _ (e : D) (f : AfterFormat makes means h pairs d (Ok tt) e) where
     roomy : no_room pairs (means d).size ≡ false
-    roomy = has-room pairs (means d) f.format
+    roomy = has-room pairs (means d) f.answer
 
     paired : Paired pairs
     paired = (room pairs (means d).size roomy).paired
 
     -- nothing stands yet, and no slip is owed
-    kept : Kept h pairs fresh (at (shut (means e) books) None)
+    kept : Kept h pairs fresh (moment_in (shut (means e) books) None)
     kept = (
       record {
-        journal = fresh-journal (header_for_books h pairs) (means d) (means e) (omega (arith, paired.few)) (format-calls pairs (means d) f.format) (f.after roomy);
+        journal = fresh-journal (header_for_books h pairs) (means d) (means e) (omega (arith, paired.few)) (format-calls pairs (means d) f.answer) (f.after roomy);
         lawful = record { standing = empty; runs = start; next = λ x q. absurd cc };
         size = omega (arith, (room pairs (means d).size roomy).within, (f.after roomy).size);
       },
       refl,
     )
 
-  pub served : {cs : List Order} {rs : List Reply} {n z : Moment} {e f : D} → AfterFormat makes means h pairs d (Ok tt) e → n ≡ at (shut (means e) books) None → Path makes means h most n e cs rs z f → Survives makes means h most pairs d books cs rs z f
+  pub served : {cs : List Order} {rs : List Reply} {n z : Moment} {e f : D} → AfterFormat makes means h pairs d (Ok tt) e → n ≡ moment_in (shut (means e) books) None → Path makes means h most n e cs rs z f → Survives makes means h most pairs d books cs rs z f
   served {cs} {rs} {n} {z} {e} {f} after en path = record {
-    run = record { device = e; formatted = after; path = subst (λ a. Path makes means h most a e cs rs z f) en path };
-    law = λ cs rs b f run. law h most pairs (paired run.device run.formatted) c₁ c₂ makes means bounds (kept run.device run.formatted) refl run.path;
-    beyond = λ cs rs b f run. beyond h most pairs (paired run.device run.formatted) c₁ c₂ makes means bounds (kept run.device run.formatted) refl run.path;
+    run = record { device = e; format = after; path = subst (λ a. Path makes means h most a e cs rs z f) en path };
+    law = λ cs rs b f run. law h most pairs (paired run.device run.format) c₁ c₂ makes means bounds (kept run.device run.format) refl run.path;
+    also = λ cs rs b f run. beyond h most pairs (paired run.device run.format) c₁ c₂ makes means bounds (kept run.device run.format) refl run.path;
     words = lasts-are-unique;
   }

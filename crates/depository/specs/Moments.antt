@@ -12,7 +12,7 @@ use Rattle.engine.specs.View.{View, view}
 use Rattle.depository.specs.declared.condition.Condition.{Condition}
 use Rattle.depository.specs.declared.condition.Condition.TheVariants.{Running, Shut}
 use Rattle.depository.specs.declared.condition.Depository.{Depository}
-use Rattle.depository.specs.Slips.{owed_contents}
+use Rattle.depository.specs.OwedSlip.{owed_contents}
 
 -- an engine, or the device and what the books hold
 pub data Phase : Type 0 where
@@ -24,8 +24,8 @@ pub record Moment : Type 0 where
   pub phase : Phase
   pub owed : Option Contents
 
-abbrev pub at : Phase → Option Contents → Moment
-at p l = record { phase = p; owed = l }
+abbrev pub moment_in : Phase → Option Contents → Moment
+moment_in p l = record { phase = p; owed = l }
 
 module _ {D R C : Type 0} {d : device.Ghosts D} {r : book.Ghosts R} {c : book.Ghosts C} where
   abbrev pub phase_of : Condition D R C d r c → Phase
@@ -34,4 +34,4 @@ module _ {D R C : Type 0} {d : device.Ghosts D} {r : book.Ghosts R} {c : book.Gh
       shut (d.medium device) (both_sides (r.holdings register) (c.holdings cash))
 
   abbrev pub moment_of : {p : powered.Ghosts D} → Depository D R C p d r c → Moment
-  moment_of h = at (phase_of h.condition) (owed_contents h.owed)
+  moment_of h = moment_in (phase_of h.condition) (owed_contents h.owed)

@@ -2,11 +2,11 @@
 ghost use Rattle.std.specs.Prelude.{◌≡◌, ◌+◌, ◌<◌, ◌≤◌, MatchResult, OnErr, [], None, length, map, vec_len, vec_capacity, alloc_error};
 ghost use Rattle.ledger.specs.View.{rulebook_of, both_sides};
 ghost use Rattle.depository.specs.Orders.{order};
-ghost use Rattle.depository.specs.Moments.{shut, at, moment_of};
+ghost use Rattle.depository.specs.Moments.{shut, moment_in, moment_of};
 ghost use Rattle.depository.specs.Handling.{device_of};
 ghost use Rattle.depository.specs.Paths.{Path};
 ghost use Rattle.depository.specs.declared.stop.Stop.TheVariants.{NoMemory};
-ghost use Rattle.depository.specs.Law.{AfterFormat, Survives, Stopped};
+ghost use Rattle.depository.specs.Survival.{AfterFormat, Survives, Stopped};
 
 use crate::calls::{Call, Reply};
 use crate::condition::{Condition, Depository};
@@ -20,7 +20,7 @@ impl<D: PoweredDevice, R: Book, C: Book> Depository<D, R, C> {
     // A depository that owes no slip.
     fn shut(device: D, register: R, cash: C) -> Self
         ensures moment { moment_of result
-            ≡ at (shut (D.Device.medium device) (both_sides (R.holdings register) (C.holdings cash)))
+            ≡ moment_in (shut (D.Device.medium device) (both_sides (R.holdings register) (C.holdings cash)))
             None }
         ensures device { device_of result.condition ≡ device }
     {
@@ -44,7 +44,7 @@ impl<D: PoweredDevice, R: Book, C: Book> Depository<D, R, C> {
             // In place, where the call moves neither device nor books: a depository is large.
             let reply = match call {
                 Call::Instruct(x) => depository.instruct(*x),
-                Call::Restart { calls, remains } => depository.restart(*calls, remains),
+                Call::Restart { calls_left, remains } => depository.restart(*calls_left, remains),
                 Call::Ask(question) => depository.ask(question),
                 _ => {
                     let (next, reply) = depository.give(call);
@@ -104,7 +104,7 @@ pub fn serve<D: PoweredDevice, R: Book, C: Book>(
     let formatted = format_for(&mut device, pairs, &register, &cash);
     let depository = Depository::shut(device, register, cash);
     if let Err(fault) = formatted {
-        return (depository, Err(Stop::Refused(fault)));
+        return (depository, Err(Stop::ByFault(fault)));
     }
     let depository = depository.run(calls, replies);
     (depository, Ok(()))

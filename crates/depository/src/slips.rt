@@ -2,8 +2,8 @@
 ghost use Rattle.std.specs.Prelude.{◌≡◌};
 ghost use Rattle.engine.specs.View.{view};
 ghost use Rattle.engine.specs.ClosingSlip.{contents};
-ghost use Rattle.depository.specs.Slips.{owed_contents, latest, Known};
-ghost use Rattle.depository.specs.Calling.{slip_answer, owed_after};
+ghost use Rattle.depository.specs.OwedSlip.{owed_contents, newest_known, Known};
+ghost use Rattle.depository.specs.Calling.{slip_answer, owed_after_open};
 
 use book::Book;
 use device::Device;
@@ -13,7 +13,7 @@ use refusals::Refusal;
 // The slip that is owed, when one more is given.
 pub(crate) fn latest(before: Option<Slip>, given: Slip) -> Option<Slip>
     requires { Known before }
-    ensures value { owed_contents result ≡ latest (contents given) (owed_contents before) }
+    ensures value { owed_contents result ≡ newest_known (contents given) (owed_contents before) }
     ensures known { Known result }
 {
     if !given.is_known() {
@@ -35,7 +35,7 @@ pub(crate) fn present<D: Device, R: Book, C: Book>(
     ensures answer { let v = view D.medium engine.now in
         result.0 ≡ slip_answer v.mode v.found v.last_found (owed_contents owed) }
     ensures owed { owed_contents result.1
-        ≡ owed_after (view D.medium engine.now).mode (owed_contents owed) }
+        ≡ owed_after_open (view D.medium engine.now).mode (owed_contents owed) }
     ensures known { Known result.1 }
 {
     let Some(slip) = owed else {

@@ -8,7 +8,7 @@ use std::alloc::AllocError;
 #[derive(Clone, Copy)]
 pub enum Stop {
     // what was to be done first is refused, as the format of the device
-    Refused(Fault),
+    ByFault(Fault),
     NoMemory(AllocError),
 }
 

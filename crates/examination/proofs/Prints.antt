@@ -9,11 +9,11 @@ use Rattle.simulated.specs.declared.state.Simulated.{Simulated}
 use Rattle.simulated.specs.Meaning.{image_of, meaning, meaning_of, state_of, Makes}
 use Rattle.simulated.proofs.Kind.{fixed}
 use Rattle.journal.specs.Format.{format_answer}
-use Rattle.depository.proofs.Fixing.{Settled}
+use Rattle.depository.proofs.Determined.{IsDetermined}
 use Rattle.depository.proofs.OneAnswer.{one-answer}
 use Rattle.examination.specs.declared.answer.Answer.{Answer}
 use Rattle.depository.specs.declared.stop.Stop.{Stop}
-use Rattle.depository.specs.declared.stop.Stop.TheVariants.{Refused}
+use Rattle.depository.specs.declared.stop.Stop.TheVariants.{ByFault}
 use Rattle.examination.specs.Orders.{requests_in}
 use Rattle.examination.specs.Answers.{answers_for}
 use Rattle.examination.specs.Key.{Keyed, Stopped}
@@ -38,7 +38,7 @@ prints-key d r c script answers shown text n er ec k es et =
     inl (record { device = d; new = n; answers = answers; keyed = empty; whole = empty.whole (let calls = n.calls in omega arith); is = et ∙ ap (key_text 1) es })
 
 -- the one refusal that can come
-pub prints-refusal : (d : Simulated) (script : List ℕ) (f : Fault) (stop : Stop) (text : List ℕ) → IsNew d → stop ≡ Refused f → Stopped 63 (meaning d) script stop → text ≡ refused_text f.refusal → Printed script text
+pub prints-refusal : (d : Simulated) (script : List ℕ) (f : Fault) (stop : Stop) (text : List ℕ) → IsNew d → stop ≡ ByFault f → Stopped 63 (meaning d) script stop → text ≡ refused_text f.refusal → Printed script text
 prints-refusal d script f stop text n es s et =
     elim (subst (λ z. Stopped 63 (meaning d) script z) es s) [
       | inl p ↦ let e : f.refusal ≡ InputTooLong = cc (p.1) in inr (p.0, et ∙ ap refused_text e)
@@ -49,7 +49,7 @@ prints-refusal d script f stop text n es s et =
 both : {a b : List ℕ} {m n : ℕ} → a ≡ b → m ≡ n → ◌≡◌ {A = List ℕ × ℕ} (a, m) (b, n)
 both p q = λ i. (p i, q i)
 
-settled : Settled Makes meaning state_of
+settled : IsDetermined Makes meaning state_of
 settled = record { fixed = fixed; meaning = λ d e q. ap (λ (s : List ℕ × ℕ). imaged 514 shown is_loose s.0 s.1) q }
 
 key-one : (script text other : List ℕ) → IsKey script text → IsKey script other → text ≡ other

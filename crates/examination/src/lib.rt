@@ -46,7 +46,7 @@ fn replies_to<D: PoweredDevice + Drop, R: Book + Drop, C: Book + Drop>(
     let _ = depository.finish();
     match served {
         Ok(()) => Ok(()),
-        Err(Stop::Refused(fault)) => Err(fault),
+        Err(Stop::ByFault(fault)) => Err(fault),
         Err(Stop::NoMemory(_)) => unreachable!(),
     }
 }
@@ -67,7 +67,7 @@ pub fn answer_script<D: PoweredDevice + Drop, R: Book + Drop, C: Book + Drop>(
         (λ stop. Stopped pairs (means device) script.now stop) }
 {
     if script.len() > LONGEST {
-        return Err(Stop::Refused(Refusal::InputTooLong.into()));
+        return Err(Stop::ByFault(Refusal::InputTooLong.into()));
     }
     let requests = read_requests(heap, script)?;
     let calls = calls_for(heap, requests.as_slice())?;
@@ -82,7 +82,7 @@ pub fn answer_script<D: PoweredDevice + Drop, R: Book + Drop, C: Book + Drop>(
         &mut replies,
     );
     if let Err(fault) = served {
-        return Err(Stop::Refused(fault));
+        return Err(Stop::ByFault(fault));
     }
     answers_for(requests.as_slice(), replies.as_slice(), &mut answers);
     Ok(answers)

@@ -41,7 +41,7 @@ fn add_calls<'a>(calls: &mut Vec<Call<'a>>, request: &'a Read) -> Result<(), All
         Ok(Request::Cut(cut)) => {
             calls.push(Call::Close)?;
             calls.push(Call::Restart {
-                calls: cut.calls,
+                calls_left: cut.calls,
                 remains: cut.remains.as_slice(),
             })?;
             calls.push(Call::Open)?;

@@ -17,8 +17,8 @@ returns-in-Ok-clause-text c =
     (λ text e. prints-key c.in_ok-device.device _ _ c.args.script.now (vec_items c.in-Ok.answers) _ (string_bytes text) c.in_ok-device.ensures c.in_ok-register.ensures c.in_ok-cash.ensures keyed c.as_slice.ensures.value e)
     c.key_text.ensures
 
-pub returns-in-Err-Refused-clause-text : goal.returns-in-Err-Refused-clause-text
-returns-in-Err-Refused-clause-text c =
+pub returns-in-Err-ByFault-clause-text : goal.returns-in-Err-ByFault-clause-text
+returns-in-Err-ByFault-clause-text c =
     IfOk-weaker c.refusal_text.result _ _
-    (λ text e. prints-refusal c.in_ok-device.device c.args.script.now c.in-Err-Refused.fault c.in-Err-Refused.field-0 (string_bytes text) c.in_ok-device.ensures c.in-Err-Refused.field-0-is c.in-Err-Refused.ensures e)
+    (λ text e. prints-refusal c.in_ok-device.device c.args.script.now c.in-Err-ByFault.fault c.in-Err-ByFault.field-0 (string_bytes text) c.in_ok-device.ensures c.in-Err-ByFault.field-0-is c.in-Err-ByFault.ensures e)
     c.refusal_text.ensures

@@ -1,10 +1,10 @@
 use Rattle.std.proofs.Common.{◌≡◌, [], ◌∷◌, ◌++◌, get_or, vec_items, sym, ap, subst, rules}
 use Rattle.ledger.specs.View.{rulebook_of}
 use Rattle.depository.specs.declared.calls.Call.TheVariants.{Instruct, Restart, Ask}
-use Rattle.depository.specs.Orders.{Order, to_instruct, to_restart, to_ask, order}
+use Rattle.depository.specs.Orders.{Order, instruct_order, restart_order, ask_order, order}
 use Rattle.depository.specs.Moments.{moment_of}
 use Rattle.depository.specs.Handling.{device_of}
-use Rattle.depository.specs.Paths.{Path, done}
+use Rattle.depository.specs.Paths.{Path, no_calls}
 use Rattle.depository.proofs.Runs.{unasked, fit-of, next-call, next-order, asked-only, all-calls, means-it}
 use Rattle.depository.proofs.condition.Depository.run.Goals as goal
 use Rattle.depository.proofs.condition.Depository.run.Goals.{in-Instruct, in-Restart, in-Ask, in_default}
@@ -13,7 +13,7 @@ pub loop-call-init : goal.loop-call-init
 loop-call-init g c =
     let a = moment_of c.args.self in
     let d = device_of c.args.self.condition in
-    let start = subst (λ ys. Path g.D.Device.makes g.D.Device.medium (rulebook_of g.R.Book.book_kind g.C.Book.book_kind) g.D.PoweredDevice.most_calls a d [] ys a d) (sym c.requires.none) (done (means-it c.args.self.condition)) in
+    let start = subst (λ ys. Path g.D.Device.makes g.D.Device.medium (rulebook_of g.R.Book.book_kind g.C.Book.book_kind) g.D.PoweredDevice.most_calls a d [] ys a d) (sym c.requires.none) (no_calls (means-it c.args.self.condition)) in
     (search rules, search rules, search rules, start)
 
 -- The call that is made is the next of the list, and its reply goes to the end of the replies.
@@ -33,7 +33,7 @@ loop-call-preserved g c =
     elim c.match-call.branch [
       | in-Instruct w ↦
           let e = w.instruct-reply.ensures in
-          let o : Order = to_instruct w.in-Instruct.x in
+          let o : Order = instruct_order w.in-Instruct.x in
           let next : get_or calls n unasked ≡ Instruct w.in-Instruct.x = assumption (w.in-Instruct.is) in
           let answered : new ≡ old ++ (w.instruct-reply.result ∷ []) = rw w.reply-is at p.items in (
             search rules,
@@ -43,8 +43,8 @@ loop-call-preserved g c =
           )
       | in-Restart w ↦
           let e = w.restart-reply.ensures in
-          let o : Order = to_restart w.in-Restart.calls w.in-Restart.remains.now in
-          let next : get_or calls n unasked ≡ Restart w.in-Restart.calls w.in-Restart.remains = assumption (w.in-Restart.is) in
+          let o : Order = restart_order w.in-Restart.calls_left w.in-Restart.remains.now in
+          let next : get_or calls n unasked ≡ Restart w.in-Restart.calls_left w.in-Restart.remains = assumption (w.in-Restart.is) in
           let answered : new ≡ old ++ (w.restart-reply.result ∷ []) = rw w.reply-is at p.items in (
             search rules,
             search rules,
@@ -52,7 +52,7 @@ loop-call-preserved g c =
             rw w.depository-is (next-order makes means h most unasked calls n o w.restart-reply.result c.loop-call-test.true i.3 (ap order next) (λ x same. absurd cc) e.does e.device (means-it w.restart-reply.new.self.condition) answered),
           )
       | in-Ask w ↦
-          let o : Order = to_ask w.in-Ask.question in
+          let o : Order = ask_order w.in-Ask.question in
           let next : get_or calls n unasked ≡ Ask w.in-Ask.question = assumption (w.in-Ask.is) in
           let answered : new ≡ old ++ (w.ask-reply.result ∷ []) = rw w.reply-is at p.items in (
             search rules,

@@ -24,14 +24,14 @@ use Rattle.engine.specs.View.{View}
 use Rattle.engine.specs.Asking.{opening_answer}
 use Rattle.engine.specs.Lasting.{standing_list, blocks_for_books}
 use Rattle.engine.specs.Opening.{header_for_books}
-use Rattle.depository.specs.Orders.{Order, to_open}
+use Rattle.depository.specs.Orders.{Order, open_order}
 use Rattle.depository.specs.declared.calls.Reply.{Reply}
-use Rattle.depository.specs.declared.calls.Reply.TheVariants.{Opened as OpenedReply}
-use Rattle.depository.specs.declared.calls.Opened.{Opened}
+use Rattle.depository.specs.declared.calls.Reply.TheVariants.{ToOpen as OpenedReply}
+use Rattle.depository.specs.declared.calls.OpenReply.{OpenReply}
 use Rattle.depository.specs.declared.stop.Stop.{Stop}
-use Rattle.depository.specs.declared.stop.Stop.TheVariants.{Refused, NoMemory}
-use Rattle.depository.specs.Moments.{running, shut, Moment, at}
-use Rattle.depository.specs.Calling.{Does}
+use Rattle.depository.specs.declared.stop.Stop.TheVariants.{ByFault, NoMemory}
+use Rattle.depository.specs.Moments.{running, shut, Moment, moment_in}
+use Rattle.depository.specs.Calling.{LeadsTo}
 use Rattle.depository.specs.Handling.{medium_in}
 use Rattle.depository.specs.Tally.{Tally, tally}
 use Rattle.depository.specs.Paths.{Path, last_closing}
@@ -52,12 +52,12 @@ pub record Stands (h : Rulebook) (xs : List Instruction) (v : View) : Type 0 whe
 
 -- What the answer o of an open, and the engine v that it gave, say of the last closing before it whose
 -- slip is known. `told` is what that slip tells, or None where there was no such closing.
-pub record Judged (told : Option Contents) (o : Opened) (v : View) : Type 0 where
-  pub none : told ≡ None → o.presented ≡ None
+pub record Judged (told : Option Contents) (o : OpenReply) (v : View) : Type 0 where
+  pub none : told ≡ None → o.slip_answer ≡ None
   -- its slip is judged by the count of the entries found and the last of them
   pub judged : (c : Contents) → told ≡ Some c
-      → (w : Verdict) × (o.presented ≡ Some (Ok w)) × HasVerdict (Some c) o.found v.last_found w
-  pub upheld : (p : Result Verdict Refusal) → o.presented ≡ Some p
+      → (w : Verdict) × (o.slip_answer ≡ Some (Ok w)) × HasVerdict (Some c) o.found v.last_found w
+  pub upheld : (p : Result Verdict Refusal) → o.slip_answer ≡ Some p
       → (presented_number p ≡ 0) ⊎ (presented_number p ≡ 1)
 
 -- What the last closing told, if its slip is known, is the tally: how many instructions it lists, and
@@ -67,8 +67,8 @@ pub record TellsTally (told : Option Contents) (t : Tally) : Type 0 where
   pub some : (c : Contents) → told ≡ Some c → (c.entries ≡ length t.list) × (c.hand ≡ t.hand)
 
 -- an open was answered 0
-abbrev pub OpenedWell : Reply → Type 0
-OpenedWell r = (o : Opened) × (r ≡ OpenedReply o) × (o.answer ≡ Ok tt)
+abbrev pub IsOpenAccepted : Reply → Type 0
+IsOpenAccepted r = (o : OpenReply) × (r ≡ OpenedReply o) × (o.answer ≡ Ok tt)
 
 module _ (h : Rulebook) (most pairs : ℕ) where
   -- The law at the moment b, to which the calls cs, answered rs, have led from a format. `told` is
@@ -91,10 +91,10 @@ module _ (h : Rulebook) (most pairs : ℕ) where
     -- an open that comes next, of a device with calls enough, is answered 0
     pub prompt : (m : Medium) (books : Side → Holdings) → b.phase ≡ shut m books
         → enough_to_open ≤ m.calls_left
-        → (r : Reply) (z : Moment) → Does h most b to_open r z → OpenedWell r
+        → (r : Reply) (z : Moment) → LeadsTo h most b open_order r z → IsOpenAccepted r
     -- and after one that is answered 0, the verdict on that closing's slip, if any, is 0 or 1
-    pub verdict : (r : Reply) (z : Moment) → Does h most b to_open r z
-        → (o : Opened) (v : View) → r ≡ OpenedReply o → o.answer ≡ Ok tt → z.phase ≡ running v
+    pub verdict : (r : Reply) (z : Moment) → LeadsTo h most b open_order r z
+        → (o : OpenReply) (v : View) → r ≡ OpenedReply o → o.answer ≡ Ok tt → z.phase ≡ running v
         → Judged told o v
 
   -- More that holds at the same moment, and is not promised.
@@ -102,10 +102,10 @@ module _ (h : Rulebook) (most pairs : ℕ) where
     -- the calls that reading a journal of so many pairs takes at most are enough
     pub prompt : (m : Medium) (books : Side → Holdings) → b.phase ≡ shut m books
         → 1 + 2 * pairs ≤ m.calls_left
-        → (r : Reply) (z : Moment) → Does h most b to_open r z → OpenedWell r
+        → (r : Reply) (z : Moment) → LeadsTo h most b open_order r z → IsOpenAccepted r
     -- an open is refused for want of calls only
-    pub refused : (r : Reply) (z : Moment) → Does h most b to_open r z
-        → (o : Opened) (f : Fault) → r ≡ OpenedReply o → o.answer ≡ Err f → number_of f.refusal ≡ 13
+    pub refused : (r : Reply) (z : Moment) → LeadsTo h most b open_order r z
+        → (o : OpenReply) (f : Fault) → r ≡ OpenedReply o → o.answer ≡ Err f → number_of f.refusal ≡ 13
     -- the device keeps the tally, and what is in hand, also while no engine runs
     pub keeps : Journal (blocks_for_books h pairs) (medium_in b.phase)
         (tally cs rs).list (tally cs rs).hand
@@ -114,7 +114,7 @@ module _ {D : Type 0} (makes : D → DeviceCall → D → Type 0) (means : D →
     (h : Rulebook) where
   -- what a format answered r leaves of the device d
   pub record AfterFormat (pairs : ℕ) (d : D) (r : Answer) (e : D) : Type 0 where
-    pub format : format_answer pairs (means d) ≡ r
+    pub answer : format_answer pairs (means d) ≡ r
     -- with 61 nothing was done
     pub refused : no_room pairs (means d).size ≡ true → e ≡ d
     -- else its calls were made, up to the first that found none left
@@ -126,27 +126,27 @@ module _ {D : Type 0} (makes : D → DeviceCall → D → Type 0) (means : D →
   module _ (most pairs : ℕ) (d : D) (books : Side → Holdings) where
     -- A format of d with so many pairs was answered 0, and from there the calls cs, answered rs,
     -- led to the moment b and the device e.
-    pub record Run (cs : List Order) (rs : List Reply) (b : Moment) (e : D) : Type 0 where
+    pub record RunFromFormat (cs : List Order) (rs : List Reply) (b : Moment) (e : D) : Type 0 where
       pub device : D
-      pub formatted : AfterFormat pairs d (Ok tt) device
-      pub path : Path makes means h most (at (shut (means device) books) None) device cs rs b e
+      pub format : AfterFormat pairs d (Ok tt) device
+      pub path : Path makes means h most (moment_in (shut (means device) books) None) device cs rs b e
 
     -- The whole law, where a depository of the device d, and of books that hold these amounts, was
     -- given the calls cs from its format on.
     pub record Survives (cs : List Order) (rs : List Reply) (b : Moment) (e : D) : Type 0 where
       -- what was done
-      pub run : Run cs rs b e
+      pub run : RunFromFormat cs rs b e
       -- and what holds of every run of such a depository, whatever its calls and their answers
       pub law : (cs' : List Order) (rs' : List Reply) (b' : Moment) (e' : D)
-          (other : Run cs' rs' b' e') → Law h most pairs cs' rs' (last_closing other.path) b'
-      pub beyond : (cs' : List Order) (rs' : List Reply) (b' : Moment) (e' : D)
-          → Run cs' rs' b' e' → Beyond h most pairs cs' rs' b'
+          (other : RunFromFormat cs' rs' b' e') → Law h most pairs cs' rs' (last_closing other.path) b'
+      pub also : (cs' : List Order) (rs' : List Reply) (b' : Moment) (e' : D)
+          → RunFromFormat cs' rs' b' e' → Beyond h most pairs cs' rs' b'
       -- every list has one last instruction of a trade, and one last Enter, or none
       pub words : LastsAreUnique
 
   -- No calls were given, and the depository is as it was made: the format was refused; or there was
   -- no room for the answers, and nothing was done.
   abbrev pub Stopped : ℕ → D → (Side → Holdings) → Stop → Moment → D → Type 0
-  Stopped pairs d books (Refused f) b e =
-      AfterFormat pairs d (Err f) e × (b ≡ at (shut (means e) books) None)
-  Stopped pairs d books (NoMemory x) b e = (e ≡ d) × (b ≡ at (shut (means d) books) None)
+  Stopped pairs d books (ByFault f) b e =
+      AfterFormat pairs d (Err f) e × (b ≡ moment_in (shut (means e) books) None)
+  Stopped pairs d books (NoMemory x) b e = (e ≡ d) × (b ≡ moment_in (shut (means d) books) None)

@@ -14,6 +14,6 @@ abbrev pub Known : Option Slip → Type 0
 Known slip = is_some slip ≡ is_some (owed_contents slip)
 
 -- what is owed after one more slip: the new one, unless it tells nothing
-abbrev pub latest : Option Contents → Option Contents → Option Contents
-latest None before = before
-latest (Some c) before = Some c
+abbrev pub newest_known : Option Contents → Option Contents → Option Contents
+newest_known None before = before
+newest_known (Some c) before = Some c
