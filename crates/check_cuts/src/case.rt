@@ -26,7 +26,13 @@ impl<'a> Case<'a> {
     // The power is cut.
     pub(crate) fn restart(&mut self, calls: u32, remains: &'a [u8]) -> Result<(), AllocError> {
         self.add(Call::Close, Seen::Done)?;
-        self.add(Call::Restart { calls_left: calls, remains }, Seen::Done)
+        self.add(
+            Call::Restart {
+                calls_left: calls,
+                remains,
+            },
+            Seen::Done,
+        )
     }
 
     // An open is answered 0.

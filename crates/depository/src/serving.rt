@@ -44,7 +44,10 @@ impl<D: PoweredDevice, R: Book, C: Book> Depository<D, R, C> {
             // In place, where the call moves neither device nor books: a depository is large.
             let reply = match call {
                 Call::Instruct(x) => depository.instruct(*x),
-                Call::Restart { calls_left, remains } => depository.restart(*calls_left, remains),
+                Call::Restart {
+                    calls_left,
+                    remains,
+                } => depository.restart(*calls_left, remains),
                 Call::Ask(question) => depository.ask(question),
                 _ => {
                     let (next, reply) = depository.give(call);

@@ -136,7 +136,10 @@ impl<D: PoweredDevice, R: Book, C: Book> Depository<D, R, C> {
                 (self, reply)
             }
             Call::Close => self.close(),
-            Call::Restart { calls_left, remains } => {
+            Call::Restart {
+                calls_left,
+                remains,
+            } => {
                 let reply = self.restart(*calls_left, remains);
                 (self, reply)
             }
