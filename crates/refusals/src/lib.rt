@@ -86,9 +86,9 @@ pub enum Refusal {
     NotAHeader = 43,
     /// 44: the header names other kinds of books than the ones given.
     OtherKinds = 44,
-    /// 45: the header tells of more pairs of blocks than the device has.
+    /// 45: the device has too few blocks for the number of pairs in the header.
     TooFewBlocks = 45,
-    /// 46: the bytes are no record of this entry, or no instruction.
+    /// 46: the bytes are no instruction, or no record of the entry.
     Malformed = 46,
     /// 47: the rules refuse the instruction of a record. The fault has their refusal too.
     RulesRefuse = 47,
