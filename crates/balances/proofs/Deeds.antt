@@ -1,10 +1,10 @@
--- The accepted deeds on a table: what each is answered, what it leaves, and that the table stays sound. Assumes nothing.
+-- The accepted deeds on a table: what each is answered, what it leaves, and that the table stays sound.
 use Rattle.std.proofs.Common.{◌≡◌, ℕ, ◌+◌, ◌-◌, ◌<◌, ◌≤◌, List, [], length, get_or, Ok, sym, refl, ap, ◌∙◌, subst, arith}
 use Rattle.std.proofs.lemmas.Bool.{eq-eqb}
 use Rattle.refusals.specs.declared.Refusal.{Refusal}
 use Rattle.book.specs.declared.Holding.{Holding}
-use Rattle.book.specs.Holdings.{Holdings, total, limit, Deed, apply, crediting, blocking, moving, lowered}
-use Rattle.book.specs.Rulings.{ruling, outcome, amount_answer, covering}
+use Rattle.book.specs.Holdings.{Holdings, total, limit, Deed, apply, crediting, blocking, moving, less_at}
+use Rattle.book.specs.Rulings.{ruling, outcome, amount_answer, cover_answer}
 use Rattle.book.proofs.Totals.{amount-le-total}
 use Rattle.book.proofs.Accepted.{outcome-ok, asked-ok, covers-ok, credit-fits, block-accepted, move-accepted, stays-within}
 use Rattle.balances.specs.declared.table.Balances.{Balances}
@@ -56,7 +56,7 @@ module _ (book : Balances) (A I q : ℕ) where
         omega (arith, amount-le-total (amounts rows) A I place.0, book.within I)
 
     module _ (short : Refusal) where
-      pub block-done : Ok tt ≡ covering held.free q short
+      pub block-done : Ok tt ≡ cover_answer held.free q short
           → Done rows (put rows A I (record { free = held.free - q; blocked = held.blocked + q })) (blocking A I q)
       block-done c =
           let t = row-there place.1 in
@@ -67,7 +67,7 @@ module _ (book : Balances) (A I q : ℕ) where
           (block-accepted balances_kind (amounts rows) A I q place.0 place.1 m.0 (omega arith))
           (same ∙ put-block rows A I q t (account-there place.0 place.1))
 
-      module _ (B : ℕ) (lb : B < 64) (c : Ok tt ≡ covering held.blocked q short) where
+      module _ (B : ℕ) (lb : B < 64) (c : Ok tt ≡ cover_answer held.blocked q short) where
         -- the table with the amount taken and not yet given
         abbrev pub taken : List (List Holding)
         taken = put rows A I (record { free = (at rows A I).free; blocked = (at rows A I).blocked - q })
@@ -78,7 +78,7 @@ module _ (book : Balances) (A I q : ℕ) where
         taken-full : Full taken
         taken-full = full-put rows A I _ there book.full
 
-        taken_is : amounts taken ≡ record { free = (amounts rows).free; blocked = lowered (amounts rows).blocked A I q }
+        taken_is : amounts taken ≡ record { free = (amounts rows).free; blocked = less_at (amounts rows).blocked A I q }
         taken_is = put-lower rows A I q there (account-there place.0 place.1)
 
         move-ok : Ok tt ≡ ruling balances_kind (amounts rows) (moving A B I q)

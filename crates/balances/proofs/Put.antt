@@ -1,11 +1,11 @@
--- One holding of a table changed. Assumes nothing.
+-- One holding of a table changed.
 use Rattle.std.specs.Prelude.{◌≡◌, ℕ, ◌+◌, ◌-◌, ◌<◌, Bool, true, false, cond, List, [], length, get_or, ◌==◌, ◌≢◌, slice_index_or, slice_set, refl}
 use Rattle.std.proofs.Common.{sym, ap, ◌∙◌, ⊎_elim, arith}
 use Rattle.std.proofs.lemmas.List.{get_or-set_same, get_or-set_other, length-set}
 use Rattle.std.proofs.lemmas.Bool.{cases_eq, and_left, and_right, and_from, eq-eqb, ne_eqb}
 use Rattle.book.specs.declared.Holding.{Holding}
 use Rattle.book.specs.Sums.{is_place}
-use Rattle.book.specs.Holdings.{Holdings, apply, crediting, blocking, lowered}
+use Rattle.book.specs.Holdings.{Holdings, apply, crediting, blocking, less_at}
 use Rattle.book.proofs.Same.{holdings-same}
 use Rattle.book.proofs.Change.{kept-at, raised-at, lowered-at}
 use Rattle.book.specs.Rulings.{no_holding}
@@ -77,6 +77,6 @@ module _ (rows : List (List Holding)) (A I q : ℕ) (li : I < length rows) (la :
   put-block = amounts-put rows A I _ li la _ (lowered-at f A I q) (raised-at g A I q)
 
   -- the first half of a transfer
-  pub put-lower : amounts (put rows A I (record { free = (at rows A I).free; blocked = (at rows A I).blocked - q })) ≡ record { free = (amounts rows).free; blocked = lowered (amounts rows).blocked A I q }
+  pub put-lower : amounts (put rows A I (record { free = (at rows A I).free; blocked = (at rows A I).blocked - q })) ≡ record { free = (amounts rows).free; blocked = less_at (amounts rows).blocked A I q }
   unfolding f g
   put-lower = amounts-put rows A I _ li la _ (kept-at f A I q) (lowered-at g A I q)

@@ -1,4 +1,4 @@
--- Nothing stands past the last account or the last item. Assumes nothing.
+-- Nothing stands past the last account or the last item.
 use Rattle.std.specs.Prelude.{◌≡◌, ℕ, ◌≤◌, ◌⊎◌, List, [], get_or, slice_index_or}
 use Rattle.std.proofs.Common.{ap, ⊎_elim, arith}
 use Rattle.std.proofs.lemmas.List.{get_or_past}

@@ -1,4 +1,4 @@
--- A table of balances: rows by item, and in a row the accounts' holdings. Assumes nothing.
+-- A table of balances: rows by item, and in a row the accounts' holdings.
 use Rattle.std.specs.Prelude.{◌≡◌, ℕ, ◌<◌, ◌≤◌, List, [], length, slice_index_or}
 use Rattle.book.specs.declared.Holding.{Holding}
 use Rattle.book.specs.Holdings.{Holdings, BookKind, total, limit}

@@ -1,4 +1,5 @@
-// A book in a box is the book in it, and moves at the cost of a pointer.
+//! A book in a box is the book in it, and moves at the cost of a pointer.
+
 use crate::Book;
 use refusals::Refusal;
 

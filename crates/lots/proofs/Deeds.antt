@@ -1,4 +1,4 @@
--- The accepted deeds on a table of lots: what each is answered, what it leaves, and that the table stays sound. Assumes nothing.
+-- The accepted deeds on a table of lots: what each is answered, what it leaves, and that the table stays sound.
 use Rattle.std.specs.Prelude.{◌≡◌, ℕ, ◌<◌, ◌≤◌, true, List, length, replicate, Ok, ◌==◌, ◌≢◌, slice_set, refl}
 use Rattle.std.proofs.Common.{sym, ap, ◌∙◌, ⊎_elim, arith}
 use Rattle.std.proofs.lemmas.List.{get_or-set_same, get_or-set_other, get_or_past, get_or-replicate, length-set, length-replicate}
@@ -6,7 +6,7 @@ use Rattle.std.proofs.lemmas.Bool.{cases_eq, cases_lt, lt-ltb, eqb-true, cases_B
 use Rattle.refusals.specs.declared.Refusal.{Refusal}
 use Rattle.book.specs.Sums.{amount_if, is_place}
 use Rattle.book.specs.Holdings.{Holdings, nothing, Deed, apply, crediting, blocking, moving}
-use Rattle.book.specs.Rulings.{ruling, outcome, amount_answer, covering}
+use Rattle.book.specs.Rulings.{ruling, outcome, amount_answer, cover_answer}
 use Rattle.book.proofs.Same.{holdings-same}
 use Rattle.book.proofs.Change.{here-in, here-not}
 use Rattle.book.proofs.Accepted.{outcome-ok, asked-ok, covers-ok, credit-fits, block-accepted, move-accepted}
@@ -91,7 +91,7 @@ module _ (book : Lots) (A I q : ℕ) where
       (λ a. omega (arith, ap (λ x. free_of x a) none, in-item A a one)) (λ a. omega (arith, ap (λ x. blocked_of x a) none))
       (λ a i ne. omega (arith, elsewhere A a i ne)) (λ a i ne. refl))
 
-  module _ (n : ℕ) (short : Refusal) (c : Ok tt ≡ covering n q short) where
+  module _ (n : ℕ) (short : Refusal) (c : Ok tt ≡ cover_answer n q short) where
     pub block-done : Ok n ≡ amount_answer lots_kind (amounts lots).free A I → Done lots (slice_set lots I (Blocked A)) (blocking A I q)
     block-done e =
         let p = asked-ok lots_kind (amounts lots).free A I n e in

@@ -1,4 +1,4 @@
--- What holds of a table of lots, whatever was done to it. Assumes nothing.
+-- What holds of a table of lots, whatever was done to it.
 use Rattle.std.specs.Prelude.{◌≡◌, ℕ, ◌≤◌, ◌⊎◌, List}
 use Rattle.std.proofs.Common.{ap, ⊎_elim, arith}
 use Rattle.std.proofs.lemmas.List.{get_or_past}

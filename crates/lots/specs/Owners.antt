@@ -1,4 +1,4 @@
--- A table of numbered lots: each is whole, with one account or with none. Assumes nothing.
+-- A table of numbered lots: each is whole, with one account or with none.
 use Rattle.std.specs.Prelude.{◌≡◌, ℕ, Bool, true, List, length, ◌==◌, nat_lt, slice_index_or}
 use Rattle.book.specs.Sums.{amount_if}
 use Rattle.book.specs.Holdings.{Holdings, BookKind}
