@@ -85,13 +85,9 @@ pub trait Book {
         ensures answer { result ≡ ruling book_kind (holdings self.old) (moving from to item quantity) }
         ensures after { holdings self.new ≡ outcome book_kind (holdings self.old) (moving from to item quantity) };
 
-    /// The free amount.
-    fn free(&self, account: u16, item: u16) -> Result<u64, Refusal>
-        ensures { result ≡ amount_answer book_kind (holdings self.now).free account item };
-
-    /// The blocked amount.
-    fn blocked(&self, account: u16, item: u16) -> Result<u64, Refusal>
-        ensures { result ≡ amount_answer book_kind (holdings self.now).blocked account item };
+    /// Free and blocked together.
+    fn holding(&self, account: u16, item: u16) -> Result<Holding, Refusal>
+        ensures { result ≡ amount_answer book_kind (holding_of (holdings self.now)) account item };
 
     /// How many items the book has, numbered from 0.
     fn items(&self) -> u16
@@ -119,20 +115,25 @@ pub trait Book {
         }
     }
 
+    /// The free amount.
+    fn free(&self, account: u16, item: u16) -> Result<u64, Refusal>
+        ensures { result ≡ amount_answer book_kind (holdings self.now).free account item }
+    {
+        self.holding(account, item).map(|holding| holding.free)
+    }
+
+    /// The blocked amount.
+    fn blocked(&self, account: u16, item: u16) -> Result<u64, Refusal>
+        ensures { result ≡ amount_answer book_kind (holdings self.now).blocked account item }
+    {
+        self.holding(account, item).map(|holding| holding.blocked)
+    }
+
     /// The free amount, and 0 where the book has no such account or item.
     fn available(&self, account: u16, item: u16) -> u64
         ensures { result ≡ (holdings self.now).free account item }
     {
         self.free(account, item).unwrap_or(0)
-    }
-
-    /// Free and blocked together.
-    fn holding(&self, account: u16, item: u16) -> Result<Holding, Refusal>
-        ensures { result ≡ amount_answer book_kind (holding_of (holdings self.now)) account item }
-    {
-        let free = self.free(account, item)?;
-        let blocked = self.blocked(account, item)?;
-        Ok(Holding { free, blocked })
     }
 
     /// An item's amounts over all accounts.
