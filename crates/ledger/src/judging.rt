@@ -4,12 +4,12 @@ ghost use Rattle.refusals.specs.Numbers.{numbered};
 ghost use Rattle.instruction.specs.Kinds.{kind_at};
 ghost use Rattle.book.specs.Rulings.{first_refusal};
 ghost use Rattle.rulebook.specs.Rules.{stray, enter_checks, answer_as, fault_answer};
-ghost use Rattle.ledger.specs.View.{rulebook_of, standing_in, IsJudged};
+ghost use Rattle.ledger.specs.View.{rulebook_of, standing_in, IsKindOrFault};
 
 use crate::parts::Parts;
+use refusals::{Fault, Refusal};
 use book::{ACCOUNTS, Book};
 use instruction::{Instruction, Kind};
-use refusals::{Fault, Refusal};
 use rulebook::fault_about;
 
 // A field that the kind does not use is not 0: the instruction is not the one with those fields left out.
@@ -113,7 +113,7 @@ impl<R: Book, C: Book> Parts<R, C> {
 
     // The kind of an instruction that the rules accept now, or their fault.
     pub(crate) fn accepted(&self, x: &Instruction) -> Result<Kind, Fault>
-        ensures { IsJudged (kind_at x.now.kind)
+        ensures { IsKindOrFault (kind_at x.now.kind)
             (fault_answer (rulebook_of R.book_kind C.book_kind) (standing_in R.Book C.Book self.now) x.now) result }
     {
         let kind = Kind::try_from(x.kind)?;

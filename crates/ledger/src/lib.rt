@@ -30,14 +30,14 @@ pub struct Ledger<R: Book, C: Book> {
 
 // A contract sees the books and the trades as tables. Accepted instructions led to where a ledger stands.
 impl<R: Book, C: Book> Model for Ledger<R, C> {
-    ghost use Rattle.rulebook.specs.Rules.{Reached};
+    ghost use Rattle.rulebook.specs.Rules.{IsReachable};
     ghost use Rattle.ledger.specs.View.{Tables, tables_in, rulebook_of, standing_in};
 
     ghost Value = { Tables };
 
     ghost view = { λ l. tables_in R.Book C.Book l.parts };
 
-    ghost invariant = { λ l. Reached (rulebook_of R.book_kind C.book_kind) (standing_in R.Book C.Book l.parts) };
+    ghost invariant = { λ l. IsReachable (rulebook_of R.book_kind C.book_kind) (standing_in R.Book C.Book l.parts) };
 }
 
 impl<R: Book, C: Book> Ledger<R, C> {

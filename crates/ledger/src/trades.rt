@@ -2,10 +2,10 @@
 // Its ghost field imports what this file does, so nothing here may name the table's own type.
 ghost use Rattle.std.specs.Prelude.{◌≡◌, Some, length, replicate};
 ghost use Rattle.rulebook.specs.declared.TheConstants.{TRADES};
-ghost use Rattle.ledger.specs.Rows.{blank, trade_at, put as put_in, put_answer, startable};
+ghost use Rattle.ledger.specs.Rows.{unentered_trade, trade_at, rows_with as put_in, put_answer, startable_trade};
 
-use instruction::Kind;
 use refusals::Refusal;
+use instruction::Kind;
 use rulebook::{State, TRADES, Terms, Trade};
 
 #[derive(Drop)]
@@ -29,7 +29,7 @@ const UNENTERED: Trade = Trade {
 impl Trades {
     // No trade was ever entered.
     pub fn new() -> Trades
-        ensures { result.rows ≡ replicate TRADES blank }
+        ensures { result.rows ≡ replicate TRADES unentered_trade }
     {
         Trades {
             rows: [UNENTERED; TRADES],
@@ -62,7 +62,7 @@ impl Trades {
         refusal: Refusal,
         number: u32,
     ) -> Result<Trade, Refusal>
-        ensures { result ≡ startable (Some kind) refusal self.now.rows number }
+        ensures { result ≡ startable_trade (Some kind) refusal self.now.rows number }
     {
         let trade = *self.rows.get(number as usize).ok_or(Refusal::NoTrade)?;
         trade.next(kind).ok_or(refusal)?;
