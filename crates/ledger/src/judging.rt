@@ -3,7 +3,7 @@ ghost use Rattle.std.specs.Prelude.{◌≡◌, if◌then◌else◌, Some, Ok, Er
 ghost use Rattle.refusals.specs.Numbers.{numbered};
 ghost use Rattle.instruction.specs.Kinds.{kind_at};
 ghost use Rattle.book.specs.Rulings.{first_refusal};
-ghost use Rattle.rulebook.specs.Rules.{stray, enter_checks, answer_as, fault_answer};
+ghost use Rattle.rulebook.specs.Rules.{enter_checks, answer_as, fault_answer};
 ghost use Rattle.ledger.specs.View.{rulebook_of, standing_in, IsKindOrFault};
 
 use crate::parts::Parts;
@@ -11,36 +11,6 @@ use refusals::{Fault, Refusal};
 use book::{ACCOUNTS, Book};
 use instruction::{Instruction, Kind};
 use rulebook::fault_about;
-
-// A field that the kind does not use is not 0: the instruction is not the one with those fields left out.
-fn has_stray_field(kind: Kind, x: &Instruction) -> bool
-    ensures { result ≡ stray (Some kind) x.now }
-{
-    let unused = Instruction {
-        kind: x.kind,
-        ..Instruction::default()
-    };
-    let used = match kind {
-        Kind::Issue => Instruction {
-            account: x.account,
-            item: x.item,
-            quantity: x.quantity,
-            ..unused
-        },
-        Kind::PayIn => Instruction {
-            account: x.account,
-            currency: x.currency,
-            amount: x.amount,
-            ..unused
-        },
-        Kind::Enter => *x,
-        Kind::Earmark | Kind::Fund | Kind::Settle | Kind::Free => Instruction {
-            trade: x.trade,
-            ..unused
-        },
-    };
-    *x != used
-}
 
 // The account has so much of the item free.
 fn enough<B: Book>(book: &B, account: u16, item: u16, wanted: u64) -> Result<(), Refusal>
@@ -78,7 +48,7 @@ impl<R: Book, C: Book> Parts<R, C> {
         ensures { result
             ≡ answer_as (rulebook_of R.book_kind C.book_kind) (Some kind) (standing_in R.Book C.Book self.now) x.now }
     {
-        if has_stray_field(kind, x) {
+        if x.has_stray_field(kind) {
             return Err(Refusal::StrayField);
         }
         match kind {

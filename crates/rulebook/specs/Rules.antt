@@ -6,7 +6,9 @@ use Rattle.refusals.specs.declared.Fault.{Fault}
 use Rattle.refusals.specs.Faults.{plain, of_trade}
 use Rattle.instruction.specs.declared.Kind.TheVariants.{Issue, PayIn, Enter, Earmark, Fund, Settle, Free}
 use Rattle.instruction.specs.declared.Instruction.{Instruction}
+use Rattle.instruction.specs.declared.Field.TheVariants.{Trade as TradeField}
 use Rattle.instruction.specs.Kinds.{kind_at}
+use Rattle.instruction.specs.Fields.{uses, has_stray}
 use Rattle.book.specs.declared.TheConstants.{ACCOUNTS}
 use Rattle.book.specs.Holdings.{Holdings, BookKind, nothing, Deed, no_change, crediting, blocking, releasing, moving, apply}
 use Rattle.refusals.specs.Answers.{if_ok}
@@ -44,31 +46,14 @@ states_with_blocked cash = Funded ∷ []
 abbrev pub has_blocked : Side → State → Bool
 has_blocked d o = is_among o (states_with_blocked d)
 
-abbrev pub non_zero : ℕ → Bool
-non_zero n = not (n == 0)
-
 -- A rule book says which kinds of instruction it knows. Every rule book knows all seven.
 abbrev pub knows_kind : Rulebook → Act → Bool
 knows_kind h None = false
 knows_kind h (Some k) = true
 
--- some field other than the kind and the trade is not 0
-abbrev pub past_trade : Instruction → Bool
-past_trade x =
-    non_zero x.account || (non_zero x.counterparty || (non_zero x.item
-    || (non_zero x.currency || (non_zero x.quantity || non_zero x.amount))))
-
 -- a field that the kind does not use is not 0
 abbrev pub stray : Act → Instruction → Bool
-stray (Some Issue) x =
-    non_zero x.counterparty || (non_zero x.currency || (non_zero x.trade || non_zero x.amount))
-stray (Some PayIn) x =
-    non_zero x.counterparty || (non_zero x.item || (non_zero x.trade || non_zero x.quantity))
-stray (Some Enter) x = false
-stray (Some Earmark) x = past_trade x
-stray (Some Fund) x = past_trade x
-stray (Some Settle) x = past_trade x
-stray (Some Free) x = past_trade x
+stray (Some k) x = has_stray k x
 stray None x = false
 
 -- the trade's number; its state, which refuses by the number n; then the further checks
@@ -117,15 +102,9 @@ module _ (h : Rulebook) where
   abbrev pub answer : Standing → Instruction → Result (Unit {0}) Refusal
   answer s x = answer_as (kind_at x.kind) s x
 
--- an instruction of kind 3 to 7 names a trade
+-- an instruction of a kind that uses the trade names one
 abbrev pub names_trade : Act → Bool
-names_trade (Some Issue) = false
-names_trade (Some PayIn) = false
-names_trade (Some Enter) = true
-names_trade (Some Earmark) = true
-names_trade (Some Fund) = true
-names_trade (Some Settle) = true
-names_trade (Some Free) = true
+names_trade (Some k) = uses k TradeField
 names_trade None = false
 
 -- a fault of such an instruction names that trade

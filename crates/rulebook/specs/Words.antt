@@ -24,11 +24,11 @@ HasNo P xs = AllByRecursion (λ x. P x → ⊥) xs
 -- x is the last instruction of the list that has the property P
 pub record IsLast (P : Instruction → Type 0) (x : Instruction) (xs : List Instruction) : Type 0
   where
-  pub before : List Instruction
-  pub later : List Instruction
-  pub place : xs ≡ before ++ (x ∷ later)
-  pub holds : P x
-  pub never-later : HasNo P later
+    pub before : List Instruction
+    pub later : List Instruction
+    pub place : xs ≡ before ++ (x ∷ later)
+    pub holds : P x
+    pub never-later : HasNo P later
 
 -- o is the state in which an instruction with this kind byte leaves a trade
 pub record IsStateAfter (kind : ℕ) (o : State) : Type 0 where

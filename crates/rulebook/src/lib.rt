@@ -15,7 +15,7 @@ ghost use Rattle.rulebook.specs.Table.{next_state};
 ghost use Rattle.rulebook.specs.Terms.{terms_of};
 ghost use Rattle.rulebook.specs.Rules.{next_trade, fault_about as about_trade, NamesItsTrade};
 
-use instruction::{Instruction, Kind};
+use instruction::{Field, Instruction, Kind};
 use refusals::Fault;
 
 /// How many trades there are. They are numbered from 0.
@@ -116,7 +116,7 @@ pub fn fault_about(x: &Instruction, fault: Fault) -> Fault
     ensures trade { NamesItsTrade x.now fault result }
 {
     match Kind::try_from(x.kind) {
-        Ok(Kind::Issue | Kind::PayIn) | Err(_) => fault,
-        Ok(_) => fault.of_trade(x.trade),
+        Ok(kind) if kind.uses(Field::Trade) => fault.of_trade(x.trade),
+        _ => fault,
     }
 }
