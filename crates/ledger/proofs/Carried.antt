@@ -25,7 +25,7 @@ use Rattle.ledger.specs.Rows.{trade_at, state_at, terms_at, rows_with, rows_afte
 use Rattle.rulebook.proofs.Checks.{right}
 use Rattle.ledger.proofs.Views.{standing-same}
 use Rattle.rulebook.proofs.Carries.{books-accept}
-use Rattle.rulebook.proofs.Following.{given, accepted}
+use Rattle.rulebook.proofs.Following.{follows-rules, accepted}
 use Rattle.book.proofs.Accepted.{outcome-ok}
 
 -- where a kind of a trade may start, the table leads on
@@ -92,7 +92,7 @@ unmoved s t x f (Err r) e = refl
 
 -- what giving an instruction leaves, where the rules refuse it
 pub follows-refused : (h : Rulebook) (s : Standing) (x : Instruction) (f : Fault) → fault_answer h s x ≡ Err f → IsReachable h s → FollowsRules h s s x
-follows-refused h s x f e z = given h s s x z (sym (unmoved s (effect s x) x f (answer h s x) e))
+follows-refused h s x f e z = follows-rules h s s x z (sym (unmoved s (effect s x) x f (answer h s x) e))
 
 -- and where they accept it: what carrying out leaves is what the rules say
 pub follows-carried : {R C : Type 0} (r : book.Ghosts R) (c : book.Ghosts C) (p q : Parts R C) (x : Instruction) (k : Act)
@@ -107,11 +107,11 @@ follows-carried r c p q x k is v (xs, run) er ec et =
     let trade = trade_at rows x.trade in
     let ok = accepts x (answer h s x) v in
     let takes = books-accept h xs s x run ok in
-    let tr = turned-rows rows x p.trades.whole h k trade.terms s (subst (λ k. answer_as h k s x ≡ Ok tt) is ok) in
+    let tr = turned-rows rows x p.trades.all_rows h k trade.terms s (subst (λ k. answer_as h k s x ≡ Ok tt) is ok) in
     let done : (d : Side) → book_after (h.book_kind d) d k x trade (s.book d) ≡ (effect s x).book d = λ d.
     ap (λ k. book_after (h.book_kind d) d k x trade (s.book d)) (sym is) ∙ sym (outcome-ok (h.book_kind d) (s.book d) (deed (kind_at x.kind) d trade.state trade.terms x) (sym (takes d))) in
     let leads : standing_in r c q ≡ effect s x =
     standing-same (r.holdings q.register) (c.holdings q.cash) q.trades.rows (effect s x) (er ∙ done securities) (ec ∙ done cash)
     (λ u. ap (λ z. state_at z u) et ∙ tr.states u ∙ ap (λ k. states_after (state_after k) (state_at rows) x.trade u) (sym is))
     (λ u. ap (λ z. terms_at z u) et ∙ tr.terms u ∙ ap (λ k. terms_after (is_enter k) (terms_at rows) x u) (sym is)) in
-    given h s (standing_in r c q) x (xs, run) (leads ∙ sym (accepted h s x ok))
+    follows-rules h s (standing_in r c q) x (xs, run) (leads ∙ sym (accepted h s x ok))
