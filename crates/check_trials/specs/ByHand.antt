@@ -75,7 +75,7 @@ AreAnswered n xs =
 pub record AnswersByHand : Type 0 where
   -- by hand: the kind is not 1 to 7, whatever the fields are
   pub unknown-kind : AreAnswered 32 (of_fields 0 0 0 0 0 0 0 0 ∷ of_fields 8 1 1 1 1 1 1 1 ∷ [])
-  -- by hand: a field that the kind does not use is not 0
+  -- by hand: one field is filled that the kind has no use for
   pub stray-field : AreAnswered 31 (
       of_fields 1 1 1 3 0 0 1 0 ∷ of_fields 1 1 0 3 1 0 1 0 ∷ of_fields 1 1 0 3 0 1 1 0
       ∷ of_fields 1 1 0 3 0 0 1 1 ∷ of_fields 2 1 1 0 4 0 0 1 ∷ of_fields 2 1 0 1 4 0 0 1

@@ -36,7 +36,7 @@ pub struct Settlement {
 }
 
 /// What the trials gave. An answer is a number: 0, or the refusal's.
-#[derive(Drop)]
+#[derive(Clone, Copy, Debug, PartialEq, Eq)]
 pub struct Outcomes {
     /// To block 1 in a fresh book of balances.
     pub block_of_nothing: u8,
