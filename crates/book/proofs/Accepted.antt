@@ -42,7 +42,7 @@ covers-ok n q short e =
     let z = eqb-false q 0 p.0 in
     (omega arith, ltb-false n q r.0)
 
--- no check of the list holds
+-- no check of the list fails
 abbrev pub Clear : List Check → Type 0
 Clear [] = Unit {0}
 Clear (c ∷ cs) = (c.fails ≡ false) × Clear cs

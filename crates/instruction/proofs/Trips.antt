@@ -6,7 +6,7 @@ use Rattle.little_endian.specs.Little.{le_bytes, bytes_from}
 use Rattle.little_endian.proofs.Widths.{le-bytes, part-back, part-whole}
 use Rattle.refusals.specs.declared.Refusal.TheVariants.{Malformed}
 use Rattle.instruction.specs.declared.Instruction.{Instruction}
-use Rattle.instruction.specs.Layout.{bytes_of, instruction_in, fields_in, unused_zero, IsInstruction, Lies, LaidOut, Reads, Fit}
+use Rattle.instruction.specs.Layout.{bytes_of, instruction_in, fields_in, unused_zero, IsInstruction, LiesAt, LaidOut, Reads, Fit}
 
 pub there : (i : Instruction) → Fit i → instruction_in (bytes_of i) ≡ Ok i
 there i f =
@@ -67,7 +67,7 @@ part-at bs at (suc w) (suc k) l =
     let e : suc at + k ≡ at + suc k = omega arith in
     part-at bs (suc at) w k (omega arith) ∙ ap (λ p. get_or bs p 0) e
 
-lies : (bs : List ℕ) (at w n : ℕ) → bytes_from at w bs ≡ le_bytes w n → Lies bs at w n
+lies : (bs : List ℕ) (at w n : ℕ) → bytes_from at w bs ≡ le_bytes w n → LiesAt bs at w n
 lies bs at w n e k l = sym (part-at bs at w k l) ∙ ap (λ t. get_or t k 0) e ∙ byte-at w n k l
 
 pub laid-out : (i : Instruction) → LaidOut (bytes_of i) i
