@@ -15,8 +15,10 @@ use Rattle.journal.specs.Journal.{record_at, mark_at, Good}
 use Rattle.journal.proofs.Survives.{Found}
 use Rattle.journal.specs.Blocks.{mark_bytes, record_in, read_in, no_instruction}
 use Rattle.journal.proofs.Trips.{mark-is, mark-back}
+use Rattle.journal.specs.Entries.{as_entry_fault, is_good, record_block_answer, with_calls_left}
+use Rattle.journal.proofs.ReadAnswers.{mark-bad, mark-good}
 use Rattle.engine.specs.declared.engine.Recovered.{Recovered}
-use Rattle.engine.specs.Recovery.{with_calls, good, told, said, allowed, ruled, marked, entry_answer, turn, Scan, scan}
+use Rattle.engine.specs.Recovery.{allowed, ruled, marked, entry_answer, turn, Scan, scan}
 use Rattle.engine.specs.Opening.{last_of}
 use Rattle.engine.specs.Lasting.{blocks_for_books}
 
@@ -37,23 +39,6 @@ pub last-more : (xs : List Instruction) (x : Instruction) → last_of (xs ++ (x 
 last-more [] x = refl
 last-more (y ∷ []) x = refl
 last-more (y ∷ z ∷ xs) x = last-more (z ∷ xs) x
-
--- a good mark is tested as good
-pub mark-good : (m : Medium) (k : ℕ) → k < 2 ^ 32 → m.holds (mark_at k) ≡ Some (mark_bytes k) → good k (m.holds (mark_at k)) ≡ true
-mark-good m k l e = ap (good k) e ∙ mark-is k l
-
-good-tested : (k : ℕ) (o : Option (List ℕ)) → ((bs : List ℕ) → o ≡ Some bs → (length bs ≡ 256) × ((i : ℕ) → get_or bs i 0 < 256)) → good k o ≡ true → o ≡ Some (mark_bytes k)
-good-tested k None whole e = absurd cc
-good-tested k (Some bs) whole e = let w = whole bs refl in ap Some (mark-back bs w.0 w.1 k e)
-
--- one that is tested as good is so,
-pub mark-tested : (m : Medium) (k : ℕ) → IsBounded m → good k (m.holds (mark_at k)) ≡ true → m.holds (mark_at k) ≡ Some (mark_bytes k)
-mark-tested m k b e = good-tested k (m.holds (mark_at k)) (λ bs h. (b.whole (mark_at k) bs h, b.bytes (mark_at k) bs h)) e
-
--- and one that is not good is not
-pub mark-bad : (m : Medium) (k : ℕ) → IsBounded m → (m.holds (mark_at k) ≡ Some (mark_bytes k) → ⊥) → good k (m.holds (mark_at k)) ≡ false
-mark-bad m k b bad =
-    false_from_ne_true (good k (m.holds (mark_at k))) (λ e. bad (mark-tested m k b e))
 
 said-so : (r : Result Instruction Refusal) (x : Instruction) → read_in r ≡ Some x → r ≡ Ok x
 said-so (Ok y) x e = ap Ok (same_Some y x e)
@@ -93,15 +78,15 @@ module _ {ws : List Instruction} {t : Standing} where
 -- what entry k answers, with so many calls left
 module _ (h : Rulebook) (m : Medium) (s : Standing) (k calls : ℕ) where
   abbrev on : Medium
-  on = with_calls calls m
+  on = with_calls_left calls m
 
   no-mark-call : calls ≡ 0 → entry_answer h on s k ≡ Err (in_entry k (at_block NoCalls (mark_at k)))
   no-mark-call z = ap (marked h on s k) (cond-true (eqb calls 0) _ _ (eq-eqb calls 0 z))
 
-  mark-answers : (calls ≡ 0 → ⊥) → (b : Bool) → good k (m.holds (mark_at k)) ≡ b → entry_answer h on s k ≡ marked h on s k (Ok b)
+  mark-answers : (calls ≡ 0 → ⊥) → (b : Bool) → is_good k (m.holds (mark_at k)) ≡ b → entry_answer h on s k ≡ marked h on s k (Ok b)
   mark-answers some b e = ap (marked h on s k) (cond-false (eqb calls 0) _ _ (ne_eqb calls 0 some) ∙ ap Ok e)
 
-  module _ (some : calls ≡ 0 → ⊥) (marks : good k (m.holds (mark_at k)) ≡ true) where
+  module _ (some : calls ≡ 0 → ⊥) (marks : is_good k (m.holds (mark_at k)) ≡ true) where
     no-record-call : calls - 1 ≡ 0 → entry_answer h on s k ≡ Err (in_entry k (at_block NoCalls (record_at k)))
     no-record-call z = mark-answers some true marks ∙ ap (ruled h s k) (cond-true (eqb (calls - 1) 0) _ _ (eq-eqb (calls - 1) 0 z))
 
@@ -109,14 +94,14 @@ module _ (h : Rulebook) (m : Medium) (s : Standing) (k calls : ℕ) where
         → entry_answer h on s k ≡ Ok (Some x)
     entry-read more-calls bs x holds is ok =
         mark-answers some true marks
-        ∙ ap (ruled h s k) (cond-false (eqb (calls - 1) 0) _ _ (ne_eqb (calls - 1) 0 more-calls) ∙ ap (said k) holds ∙ ap (told k) is)
+        ∙ ap (ruled h s k) (cond-false (eqb (calls - 1) 0) _ _ (ne_eqb (calls - 1) 0 more-calls) ∙ ap (record_block_answer k) holds ∙ ap (as_entry_fault k) is)
         ∙ ap (λ r. allowed k x (with_trade x r)) ok
 
 module _ (h : Rulebook) (pairs : ℕ) (few : pairs ≤ 32767) (m : Medium) (b : IsBounded m) (ws : List Instruction) (f : Found (blocks_for_books h pairs) m ws) (t : Standing) where
   -- what comes after entry k
   abbrev turns : ℕ → ℕ → ℕ → Standing → Option Instruction → Scan
   turns n k calls s last =
-      turn (entry_answer h (with_calls calls m) s k) (with_calls calls m) k s last (λ x. scan h n (with_calls (calls - 2) m) (k + 1) (effect s x) (Some x))
+      turn (entry_answer h (with_calls_left calls m) s k) (with_calls_left calls m) k s last (λ x. scan h n (with_calls_left (calls - 2) m) (k + 1) (effect s x) (Some x))
 
   -- past the list the mark is not good
   stops : (n k calls : ℕ) (s : Standing) (last : Option Instruction) → k < pairs → k ≡ length ws → t ≡ s → last ≡ last_of ws → Ends (turns n k calls s last) (suc n) calls ws t
@@ -129,7 +114,7 @@ module _ (h : Rulebook) (pairs : ℕ) (few : pairs ≤ 32767) (m : Medium) (b : 
       ]
 
   recovers : (n k calls : ℕ) (s : Standing) (last : Option Instruction) → n + k ≡ pairs → k ≤ length ws → Follows h s (drop k ws) t → last ≡ last_of (take k ws)
-      → Ends (scan h n (with_calls calls m) k s last) n calls ws t
+      → Ends (scan h n (with_calls_left calls m) k s last) n calls ws t
   unfolding scan
   recovers zero k calls s last e l r el =
       let ek : k ≡ length ws = omega (arith, f.room) in
@@ -158,5 +143,5 @@ module _ (h : Rulebook) (pairs : ℕ) (few : pairs ≤ 32767) (m : Medium) (b : 
 
 -- A recovery of a journal in which an opening finds ws, whose instructions lead to s, finds ws and leads there.
 pub calls-find : (h : Rulebook) (pairs : ℕ) (m : Medium) (ws : List Instruction) (s : Standing) → pairs ≤ 32767 → IsBounded m → Found (blocks_for_books h pairs) m ws → Runs h ws s
-    → (calls : ℕ) → Ends (scan h pairs (with_calls calls m) 0 empty None) pairs calls ws s
+    → (calls : ℕ) → Ends (scan h pairs (with_calls_left calls m) 0 empty None) pairs calls ws s
 calls-find h pairs m ws s few b f r calls = recovers h pairs few m b ws f s pairs 0 calls empty None (omega arith) (omega arith) (follows h r) refl

@@ -4,15 +4,16 @@ use Rattle.refusals.specs.declared.Fault.{Fault}
 use Rattle.instruction.specs.declared.Instruction.{Instruction}
 use Rattle.rulebook.specs.Rules.{Rulebook, Standing, effect}
 use Rattle.device.specs.Medium.{Medium}
+use Rattle.journal.specs.Entries.{after_reads, with_calls_left}
 use Rattle.engine.specs.declared.engine.Recovered.{Recovered}
-use Rattle.engine.specs.Recovery.{with_calls, drained, entry_answer, spent_by, leads_to, turn, ended, Scan, scan, Scanned}
+use Rattle.engine.specs.Recovery.{entry_answer, spent_by, leads_to, turn, ended, Scan, scan, Scanned}
 
 scan-none : (h : Rulebook) (m : Medium) (k : ℕ) (s : Standing) (last : Option Instruction) → scan h 0 m k s last ≡ ended m k s last
 unfolding scan
 scan-none h m k s last = refl
 
 scan-more : (h : Rulebook) (n : ℕ) (m : Medium) (k : ℕ) (s : Standing) (last : Option Instruction)
-    → scan h (n + 1) m k s last ≡ turn (entry_answer h m s k) m k s last (λ x. scan h n (drained 2 m) (k + 1) (effect s x) (Some x))
+    → scan h (n + 1) m k s last ≡ turn (entry_answer h m s k) m k s last (λ x. scan h n (after_reads 2 m) (k + 1) (effect s x) (Some x))
 unfolding scan
 scan-more h n m k s last = rw (add-one n) refl
 
@@ -21,25 +22,25 @@ pub record Turn (h : Rulebook) (pairs : ℕ) (m₀ : Medium) (s₀ : Standing) (
   pub within : k ≤ pairs
   pub counted : found.count ≡ k
   pub same : scan h pairs m₀ 0 s₀ None ≡ scan h (pairs - k) m k s found.last
-  pub medium : m ≡ with_calls m.calls_left m₀
+  pub medium : m ≡ with_calls_left m.calls_left m₀
 
 -- what the reading of an entry answers, and the device and the standing after it
 pub record EntryRead (h : Rulebook) (k : ℕ) (m : Medium) (s : Standing) (r : Result (Option Instruction) Fault) (m' : Medium) (s' : Standing) : Type 0 where
   pub answer : r ≡ entry_answer h m s k
-  pub after : m' ≡ drained (spent_by r) m
+  pub after : m' ≡ after_reads (spent_by r) m
   pub books : s' ≡ leads_to s r
 
-pub entry-read : {h : Rulebook} {k : ℕ} {m : Medium} {s : Standing} {r : Result (Option Instruction) Fault} {m' : Medium} {s' : Standing} → r ≡ entry_answer h m s k → m' ≡ drained (spent_by r) m → s' ≡ leads_to s r → EntryRead h k m s r m' s'
+pub entry-read : {h : Rulebook} {k : ℕ} {m : Medium} {s : Standing} {r : Result (Option Instruction) Fault} {m' : Medium} {s' : Standing} → r ≡ entry_answer h m s k → m' ≡ after_reads (spent_by r) m → s' ≡ leads_to s r → EntryRead h k m s r m' s'
 entry-read a e b = record { answer = a; after = e; books = b }
 
 module _ {h : Rulebook} {pairs : ℕ} {m₀ : Medium} {s₀ : Standing} {k : ℕ} {found : Recovered} {m : Medium} {s : Standing} (t : Turn h pairs m₀ s₀ k found m s) where
   -- what comes after entry k
   abbrev onward : Instruction → Scan
-  onward x = scan h (pairs - (k + 1)) (drained 2 m) (k + 1) (effect s x) (Some x)
+  onward x = scan h (pairs - (k + 1)) (after_reads 2 m) (k + 1) (effect s x) (Some x)
 
-  as-scanned : {r : Result Recovered Fault} {m' : Medium} {s' : Standing} (n : ℕ) → scan h pairs m₀ 0 s₀ None ≡ record { outcome = r; calls_left = n; standing = s' } → m' ≡ with_calls n m
+  as-scanned : {r : Result Recovered Fault} {m' : Medium} {s' : Standing} (n : ℕ) → scan h pairs m₀ 0 s₀ None ≡ record { outcome = r; calls_left = n; standing = s' } → m' ≡ with_calls_left n m
       → Scanned (scan h pairs m₀ 0 s₀ None) m₀ m' s' r
-  as-scanned n e em = rw e (record { answer = refl; device = em ∙ ap (with_calls n) t.medium; books = refl })
+  as-scanned n e em = rw e (record { answer = refl; device = em ∙ ap (with_calls_left n) t.medium; books = refl })
 
   -- this found, where it ends
   found-so-far : (m' : Medium) → ended m' k s found.last ≡ record { outcome = Ok found; calls_left = m'.calls_left; standing = s }
@@ -59,7 +60,7 @@ module _ {h : Rulebook} {pairs : ℕ} {m₀ : Medium} {s₀ : Standing} {k : ℕ
   module _ (l : k < pairs) {m' : Medium} {s' : Standing} where
     -- the mark of entry k is not good
     pub mark-ends : EntryRead h k m s (Ok None) m' s' → Scanned (scan h pairs m₀ 0 s₀ None) m₀ m' s' (Ok found)
-    mark-ends e = rw e.books (as-scanned (m.calls_left - 1) (turned l (Ok None) e.answer ∙ found-so-far (drained 1 m)) e.after)
+    mark-ends e = rw e.books (as-scanned (m.calls_left - 1) (turned l (Ok None) e.answer ∙ found-so-far (after_reads 1 m)) e.after)
 
     -- entry k is refused
     pub entry-refused : (f : Fault) → EntryRead h k m s (Err f) m' s' → Scanned (scan h pairs m₀ 0 s₀ None) m₀ m' s' (Err f)
@@ -71,5 +72,5 @@ module _ {h : Rulebook} {pairs : ℕ} {m₀ : Medium} {s₀ : Standing} {k : ℕ
           within = omega arith;
           counted = refl;
           same = turned l (Ok (Some x)) e.answer;
-          medium = ap (with_calls (m.calls_left - 2)) t.medium;
+          medium = ap (with_calls_left (m.calls_left - 2)) t.medium;
         })

@@ -17,16 +17,19 @@ use Rattle.journal.specs.Journal.{record_at, mark_at}
 use Rattle.journal.proofs.Survives.{Found}
 use Rattle.journal.specs.Blocks.{header_bytes, header_in, record_bytes, record_in, read_in, mark_bytes, no_instruction}
 use Rattle.journal.proofs.Trips.{record-read, record-back, read-header}
+use Rattle.journal.specs.Entries.{after_reads, as_entry_fault, is_good, read_mark_answer, read_record_answer, record_block_answer, with_calls_left}
+use Rattle.journal.specs.Headers.{Fits, after_read_header, header_block_answer, header_pairs, read_header_answer}
+use Rattle.journal.proofs.ReadAnswers.{header-spends, mark-good, mark-tested}
 use Rattle.engine.specs.declared.engine.Recovered.{Recovered}
-use Rattle.engine.specs.Recovery.{with_calls, drained, good, mark_answer, said, told, record_answer, allowed, ruled, marked, entry_answer, turn, Scan, scan}
+use Rattle.engine.specs.Recovery.{allowed, ruled, marked, entry_answer, turn, Scan, scan}
 use Rattle.engine.specs.declared.engine.Mode.TheVariants.{Open}
 use Rattle.engine.specs.View.{View}
-use Rattle.engine.specs.Opening.{Fits, headed, header_held, header_answer, after_header, scanned_as, opened_on, opening_view, header_for_books, last_of}
+use Rattle.engine.specs.Opening.{scanned_as, opened_on, opening_view, header_for_books, last_of}
 use Rattle.engine.specs.Lasting.{record_says, entry_in, standing_list, blocks_for_books}
 use Rattle.engine.specs.Standing.{StandsOn, FoundOn, EntryRefused, ListRefused, Opens, Prompt}
-use Rattle.engine.proofs.Readings.{entry-two, header-spends}
+use Rattle.engine.proofs.Readings.{entry-two}
 use Rattle.engine.proofs.Refusals.{same-fault, header-refuses, entry-refuses}
-use Rattle.engine.proofs.Finds.{last-more, mark-good, mark-tested, calls-find}
+use Rattle.engine.proofs.Finds.{last-more, calls-find}
 use Rattle.engine.proofs.Openings.{fewer-calls, then-scanned}
 
 -- a check that was passed, where it refuses what fails its test,
@@ -41,11 +44,11 @@ spared false r f x e = (refl, e)
 
 -- what the reading of a record and the rules' answer tell
 
-told-so : (k : ℕ) (r : Result Instruction Refusal) (x : Instruction) → told k r ≡ Ok x → r ≡ Ok x
+told-so : (k : ℕ) (r : Result Instruction Refusal) (x : Instruction) → as_entry_fault k r ≡ Ok x → r ≡ Ok x
 told-so k (Ok y) x e = cc
 told-so k (Err f) x e = absurd cc
 
-said-from : (k : ℕ) (o : Option (List ℕ)) (x : Instruction) → said k o ≡ Ok x → (bs : List ℕ) × (o ≡ Some bs) × (record_in k bs ≡ Ok x)
+said-from : (k : ℕ) (o : Option (List ℕ)) (x : Instruction) → record_block_answer k o ≡ Ok x → (bs : List ℕ) × (o ≡ Some bs) × (record_in k bs ≡ Ok x)
 said-from k None x e = absurd cc
 said-from k (Some bs) x e = (bs, refl, told-so k (record_in k bs) x e)
 
@@ -70,7 +73,7 @@ module _ (h : Rulebook) (m : Medium) (b : IsBounded m) where
   abbrev money : ℕ
   money = (h.book_kind cash).code
 
-  heads-read : (pairs : ℕ) (bs : List ℕ) (r : Result Header Refusal) → m.holds 0 ≡ Some bs → header_in bs ≡ r → headed register money m.size r ≡ Ok pairs → Heads h m pairs
+  heads-read : (pairs : ℕ) (bs : List ℕ) (r : Result Header Refusal) → m.holds 0 ≡ Some bs → header_in bs ≡ r → header_pairs register money m.size r ≡ Ok pairs → Heads h m pairs
   heads-read pairs bs (Err f) holds is e = absurd cc
   heads-read pairs bs (Ok head) holds is e =
       let p = met (eqb head.register register && eqb head.cash money) _ _ pairs e in
@@ -88,12 +91,12 @@ module _ (h : Rulebook) (m : Medium) (b : IsBounded m) where
         fits = record { few = omega (arith, w.0.few, n); within = omega (arith, room, n) };
       }
 
-  heads-held : (pairs : ℕ) (o : Option (List ℕ)) → m.holds 0 ≡ o → header_held register money m.size o ≡ Ok pairs → Heads h m pairs
+  heads-held : (pairs : ℕ) (o : Option (List ℕ)) → m.holds 0 ≡ o → header_block_answer register money m.size o ≡ Ok pairs → Heads h m pairs
   heads-held pairs None holds e = absurd cc
   heads-held pairs (Some bs) holds e = heads-read pairs bs (header_in bs) holds refl e
 
   -- a header that passed its checks
-  heads : (pairs : ℕ) → header_answer register money m ≡ Ok pairs → Heads h m pairs
+  heads : (pairs : ℕ) → read_header_answer register money m ≡ Ok pairs → Heads h m pairs
   heads pairs e =
       let p = spared (leb m.size 0) _ _ pairs e in
       let q = spared (eqb m.calls_left 0) _ _ pairs p.1 in
@@ -151,28 +154,28 @@ module _ (h : Rulebook) (m : Medium) (b : IsBounded m) where
     ruled-ends (Ok y) e = allowed-ends k y (fault_answer h s y) e
     ruled-ends (Err f) e = absurd cc
 
-    marked-so : (on : Medium) (x : Instruction) (r : Result Bool Fault) → marked h on s k r ≡ Ok (Some x) → (r ≡ Ok true) × (record_answer (drained 1 on) k ≡ Ok x) × (answer h s x ≡ Ok tt)
-    marked-so on x (Ok true) e = let p = ruled-so x (record_answer (drained 1 on) k) e in (refl, p.0, p.1)
+    marked-so : (on : Medium) (x : Instruction) (r : Result Bool Fault) → marked h on s k r ≡ Ok (Some x) → (r ≡ Ok true) × (read_record_answer (after_reads 1 on) k ≡ Ok x) × (answer h s x ≡ Ok tt)
+    marked-so on x (Ok true) e = let p = ruled-so x (read_record_answer (after_reads 1 on) k) e in (refl, p.0, p.1)
     marked-so on x (Ok false) e = let o : ◌≡◌ {A = Option Instruction} None (Some x) = cc in absurd cc
     marked-so on x (Err f) e = absurd cc
 
     marked-ends : (on : Medium) (r : Result Bool Fault) → marked h on s k r ≡ Ok None → r ≡ Ok false
-    marked-ends on (Ok true) e = absurd (ruled-ends (record_answer (drained 1 on) k) e)
+    marked-ends on (Ok true) e = absurd (ruled-ends (read_record_answer (after_reads 1 on) k) e)
     marked-ends on (Ok false) e = refl
     marked-ends on (Err f) e = absurd cc
 
     -- the mark's test, from its answer
-    tested : (on : Medium) (t : Bool) → mark_answer on k ≡ Ok t → good k (on.holds (mark_at k)) ≡ t
+    tested : (on : Medium) (t : Bool) → read_mark_answer on k ≡ Ok t → is_good k (on.holds (mark_at k)) ≡ t
     tested on t e =
         let p = spared (eqb on.calls_left 0) _ _ t e in
-        let o : ◌≡◌ {A = Result Bool Fault} (Ok (good k (on.holds (mark_at k)))) (Ok t) = p.1 in
+        let o : ◌≡◌ {A = Result Bool Fault} (Ok (is_good k (on.holds (mark_at k)))) (Ok t) = p.1 in
         cc
 
-    entry-read : (calls : ℕ) (x : Instruction) → entry_answer h (with_calls calls m) s k ≡ Ok (Some x) → ReadsEntry k s x
+    entry-read : (calls : ℕ) (x : Instruction) → entry_answer h (with_calls_left calls m) s k ≡ Ok (Some x) → ReadsEntry k s x
     entry-read calls x e =
-        let on = with_calls calls m in
-        let p = marked-so on x (mark_answer on k) e in
-        let q = spared (eqb (drained 1 on).calls_left 0) (said k (m.holds (record_at k))) _ x p.1 in
+        let on = with_calls_left calls m in
+        let p = marked-so on x (read_mark_answer on k) e in
+        let q = spared (eqb (after_reads 1 on).calls_left 0) (record_block_answer k (m.holds (record_at k))) _ x p.1 in
         let r = said-from k (m.holds (record_at k)) x q.1 in
         let w : record_bytes k x ≡ r.0 = record-back r.0 (b.whole (record_at k) r.0 r.1) (b.bytes (record_at k) r.0 r.1) k x r.2 in
         record {
@@ -182,10 +185,10 @@ module _ (h : Rulebook) (m : Medium) (b : IsBounded m) where
           accepted = p.2;
         }
 
-    entry-ends : (calls : ℕ) → k < 2 ^ 32 → entry_answer h (with_calls calls m) s k ≡ Ok None → m.holds (mark_at k) ≡ Some (mark_bytes k) → ⊥
+    entry-ends : (calls : ℕ) → k < 2 ^ 32 → entry_answer h (with_calls_left calls m) s k ≡ Ok None → m.holds (mark_at k) ≡ Some (mark_bytes k) → ⊥
     entry-ends calls l e is =
-        let on = with_calls calls m in
-        both_ways (good k (m.holds (mark_at k))) (tested on false (marked-ends on (mark_answer on k) e)) (mark-good m k l is)
+        let on = with_calls_left calls m in
+        both_ways (is_good k (m.holds (mark_at k))) (tested on false (marked-ends on (read_mark_answer on k) e)) (mark-good m k l is)
 
   -- a recovery that ended well at s has read this
   record Reads (pairs : ℕ) (s : Standing) (found : Recovered) : Type 0 where
@@ -201,25 +204,25 @@ module _ (h : Rulebook) (m : Medium) (b : IsBounded m) where
 
   module _ (pairs : ℕ) (few : pairs ≤ 32767) where
     abbrev onward : ℕ → ℕ → ℕ → Standing → Instruction → Scan
-    onward n k calls s x = scan h n (with_calls (calls - 2) m) (k + 1) (effect s x) (Some x)
+    onward n k calls s x = scan h n (with_calls_left (calls - 2) m) (k + 1) (effect s x) (Some x)
 
     -- by what entry k answers, where what comes after it is known
     turn-reads : (n k calls : ℕ) (s : Standing) (last : Option Instruction) (found : Recovered) → k < pairs → Prefix k s last
         → ((x : Instruction) → ReadsEntry k s x → (onward n k calls s x).outcome ≡ Ok found → Reads pairs (onward n k calls s x).standing found)
-        → (r : Result (Option Instruction) Fault) → entry_answer h (with_calls calls m) s k ≡ r
-        → (turn r (with_calls calls m) k s last (onward n k calls s)).outcome ≡ Ok found → Reads pairs (turn r (with_calls calls m) k s last (onward n k calls s)).standing found
+        → (r : Result (Option Instruction) Fault) → entry_answer h (with_calls_left calls m) s k ≡ r
+        → (turn r (with_calls_left calls m) k s last (onward n k calls s)).outcome ≡ Ok found → Reads pairs (turn r (with_calls_left calls m) k s last (onward n k calls s)).standing found
     turn-reads n k calls s last found l p after (Ok None) is e = ends-so pairs k s last found p (omega arith) (λ r. entry-ends k s calls (omega arith) is) e
     turn-reads n k calls s last found l p after (Ok (Some x)) is e = after x (entry-read k s calls x is) e
     turn-reads n k calls s last found l p after (Err f) is e = absurd cc
 
     scan-reads : (n k calls : ℕ) (s : Standing) (last : Option Instruction) (found : Recovered) → n + k ≡ pairs → Prefix k s last
-        → (scan h n (with_calls calls m) k s last).outcome ≡ Ok found → Reads pairs (scan h n (with_calls calls m) k s last).standing found
+        → (scan h n (with_calls_left calls m) k s last).outcome ≡ Ok found → Reads pairs (scan h n (with_calls_left calls m) k s last).standing found
     unfolding scan
     scan-reads zero k calls s last found l p e = ends-so pairs k s last found p (omega arith) (λ r. absurd (omega arith)) e
     scan-reads (suc n) k calls s last found l p e =
         turn-reads n k calls s last found (omega arith) p
         (λ x w o. scan-reads n (k + 1) (calls - 2) (effect s x) (Some x) found (omega arith) (one-more k s last x p w) o)
-        (entry_answer h (with_calls calls m) s k) refl e
+        (entry_answer h (with_calls_left calls m) s k) refl e
 
   -- the entries that have been read stand
   stand : (pairs k : ℕ) (s : Standing) (last : Option Instruction) → Heads h m pairs → k ≤ pairs → Prefix k s last → StandsOn h m pairs k s
@@ -237,10 +240,10 @@ module _ (h : Rulebook) (m : Medium) (b : IsBounded m) where
     -- by what entry k answers, where it is known why what comes after it is refused
     turn-refuses : (n k calls : ℕ) (s : Standing) (last : Option Instruction) (f : Fault) → k < pairs → m.calls_left ≡ calls + (1 + 2 * k) → Prefix k s last
         → ((x : Instruction) → ReadsEntry k s x → 2 ≤ calls → (onward pairs w.fits.few n k calls s x).outcome ≡ Err f → ListRefused h m f)
-        → (r : Result (Option Instruction) Fault) → entry_answer h (with_calls calls m) s k ≡ r
-        → (turn r (with_calls calls m) k s last (onward pairs w.fits.few n k calls s)).outcome ≡ Err f → ListRefused h m f
+        → (r : Result (Option Instruction) Fault) → entry_answer h (with_calls_left calls m) s k ≡ r
+        → (turn r (with_calls_left calls m) k s last (onward pairs w.fits.few n k calls s)).outcome ≡ Err f → ListRefused h m f
     turn-refuses n k calls s last f l spent p after (Ok None) is e = absurd cc
-    turn-refuses n k calls s last f l spent p after (Ok (Some x)) is e = after x (entry-read k s calls x is) (entry-two h s k (with_calls calls m) x (sym is)) e
+    turn-refuses n k calls s last f l spent p after (Ok (Some x)) is e = after x (entry-read k s calls x is) (entry-two h s k (with_calls_left calls m) x (sym is)) e
     turn-refuses n k calls s last f l spent p after (Err g) is e = record {
       pairs = pairs;
       entry = k;
@@ -251,18 +254,18 @@ module _ (h : Rulebook) (m : Medium) (b : IsBounded m) where
     }
 
     scan-refuses : (n k calls : ℕ) (s : Standing) (last : Option Instruction) (f : Fault) → n + k ≡ pairs → m.calls_left ≡ calls + (1 + 2 * k) → Prefix k s last
-        → (scan h n (with_calls calls m) k s last).outcome ≡ Err f → ListRefused h m f
+        → (scan h n (with_calls_left calls m) k s last).outcome ≡ Err f → ListRefused h m f
     unfolding scan
     scan-refuses zero k calls s last f l spent p e = absurd cc
     scan-refuses (suc n) k calls s last f l spent p e =
         turn-refuses n k calls s last f (omega arith) spent p
         (λ x r two o. scan-refuses n (k + 1) (calls - 2) (effect s x) (Some x) f (omega arith) (omega arith) (one-more k s last x p r) o)
-        (entry_answer h (with_calls calls m) s k) refl e
+        (entry_answer h (with_calls_left calls m) s k) refl e
 
   -- by what the recovery answers
   scanned-well : (pairs : ℕ) (z : Scan) (r : Result Recovered Fault) → Heads h m pairs → ((found : Recovered) → r ≡ Ok found → Reads pairs z.standing found)
       → ((f : Fault) → r ≡ Err f → ListRefused h m f)
-      → Opens h m (scanned_as r pairs (with_calls z.calls_left m) z.standing) (scanned_as r pairs (with_calls z.calls_left m) z.standing).mode
+      → Opens h m (scanned_as r pairs (with_calls_left z.calls_left m) z.standing) (scanned_as r pairs (with_calls_left z.calls_left m) z.standing).mode
   scanned-well pairs z (Ok found) w reads refuses =
       let r = reads found refl in
       record {
@@ -274,10 +277,10 @@ module _ (h : Rulebook) (m : Medium) (b : IsBounded m) where
   scanned-well pairs z (Err f) w reads refuses = (record { standing = refl; pairs = refl; found = refl; last_found = refl; entry_count = refl }, inr (refuses f refl))
 
   -- and by what the header's checks answer
-  headed-well : (n : ℕ) (r : Result ℕ Fault) → (0 < m.size → n ≡ m.calls_left - 1) → header_answer register money m ≡ r → Opens h m (opened_on h (with_calls n m) r) (opened_on h (with_calls n m) r).mode
+  headed-well : (n : ℕ) (r : Result ℕ Fault) → (0 < m.size → n ≡ m.calls_left - 1) → read_header_answer register money m ≡ r → Opens h m (opened_on h (with_calls_left n m) r) (opened_on h (with_calls_left n m) r).mode
   headed-well n (Ok pairs) spent e =
       let w = heads pairs e in
-      let z = scan h pairs (with_calls n m) 0 empty None in
+      let z = scan h pairs (with_calls_left n m) 0 empty None in
       let calls : m.calls_left ≡ n + (1 + 2 * 0) = omega (arith, spent (omega (arith, w.fits.within)), (header-spends register money pairs m (sym e)).0) in
       scanned-well pairs z z.outcome w (λ found o. scan-reads pairs w.fits.few pairs 0 n empty None found (omega arith) none-read o)
       (λ f o. scan-refuses pairs w pairs 0 n empty None f (omega arith) calls none-read o)
@@ -337,46 +340,46 @@ module _ (h : Rulebook) (m : Medium) (w : View) (f : FoundOn h m w) where
 
   promptly : IsBounded m → (h.book_kind securities).code < 256 → (h.book_kind cash).code < 256 → 1 + 2 * w.pairs ≤ m.calls_left → (opening_view h m).mode ≡ Open
   promptly b r c calls =
-      let z = scan h w.pairs (drained 1 m) 0 empty None in
+      let z = scan h w.pairs (after_reads 1 m) 0 empty None in
       let ends = calls-find h w.pairs m (standing_list m w.found) w.standing f.entries.fits.few b finds f.entries.list (m.calls_left - 1) in
       ap (λ (v : View). v.mode) (then-scanned h w.pairs m f.entries.some f.entries.fits.few f.entries.fits.within (λ none. omega arith) r c f.entries.head)
-      ∙ ap (λ r. (scanned_as r w.pairs (with_calls z.calls_left m) z.standing).mode) (ends.enough (omega arith))
+      ∙ ap (λ r. (scanned_as r w.pairs (with_calls_left z.calls_left m) z.standing).mode) (ends.enough (omega arith))
 
 -- an opening only reads
 
-scanned-kept : (m : Medium) (pairs n : ℕ) (s : Standing) (r : Result Recovered Fault) → SameBlocks m (scanned_as r pairs (with_calls n m) s).medium
+scanned-kept : (m : Medium) (pairs n : ℕ) (s : Standing) (r : Result Recovered Fault) → SameBlocks m (scanned_as r pairs (with_calls_left n m) s).medium
 scanned-kept m pairs n s (Ok f) = fewer-calls m n
 scanned-kept m pairs n s (Err f) = fewer-calls m n
 
-opened-kept : (h : Rulebook) (m : Medium) (n : ℕ) (r : Result ℕ Fault) → SameBlocks m (opened_on h (with_calls n m) r).medium
-opened-kept h m n (Ok pairs) = let z = scan h pairs (with_calls n m) 0 empty None in scanned-kept m pairs z.calls_left z.standing z.outcome
+opened-kept : (h : Rulebook) (m : Medium) (n : ℕ) (r : Result ℕ Fault) → SameBlocks m (opened_on h (with_calls_left n m) r).medium
+opened-kept h m n (Ok pairs) = let z = scan h pairs (with_calls_left n m) 0 empty None in scanned-kept m pairs z.calls_left z.standing z.outcome
 opened-kept h m n (Err f) = fewer-calls m n
 
 -- the device after the header's checks
-after-checked : (m : Medium) → (n : ℕ) × (after_header m ≡ with_calls n m) × (0 < m.size → n ≡ m.calls_left - 1)
+after-checked : (m : Medium) → (n : ℕ) × (after_read_header m ≡ with_calls_left n m) × (0 < m.size → n ≡ m.calls_left - 1)
 after-checked m =
     elim (cases_Bool (leb m.size 0)) [
       | inl z ↦
           let none = leb-true m.size 0 z in
-          (m.calls_left, cond-true (leb m.size 0) m (drained 1 m) z, λ l. absurd (omega arith))
-      | inr some ↦ (m.calls_left - 1, cond-false (leb m.size 0) m (drained 1 m) some, λ l. refl)
+          (m.calls_left, cond-true (leb m.size 0) m (after_reads 1 m) z, λ l. absurd (omega arith))
+      | inr some ↦ (m.calls_left - 1, cond-false (leb m.size 0) m (after_reads 1 m) some, λ l. refl)
     ]
 
 -- What an opening found on any device, where that is so, and what it leaves of the device.
 module _ (h : Rulebook) (m : Medium) where
   abbrev checks : Result ℕ Fault
-  checks = header_answer (h.book_kind securities).code (h.book_kind cash).code m
+  checks = read_header_answer (h.book_kind securities).code (h.book_kind cash).code m
 
   pub opens-well : {v : View} → v ≡ opening_view h m → IsBounded m → Opens h m v v.mode
   opens-well {v} is b =
       let a = after-checked m in
-      let e : v ≡ opened_on h (with_calls a.0 m) checks = is ∙ ap (λ d. opened_on h d checks) a.1 in
+      let e : v ≡ opened_on h (with_calls_left a.0 m) checks = is ∙ ap (λ d. opened_on h d checks) a.1 in
       subst (λ u. Opens h m u u.mode) (sym e) (headed-well h m b a.0 checks a.2 refl)
 
   pub opens-keeping : {v : View} → v ≡ opening_view h m → SameBlocks m v.medium
   opens-keeping {v} is =
       let a = after-checked m in
-      let e : v ≡ opened_on h (with_calls a.0 m) checks = is ∙ ap (λ d. opened_on h d checks) a.1 in
+      let e : v ≡ opened_on h (with_calls_left a.0 m) checks = is ∙ ap (λ d. opened_on h d checks) a.1 in
       subst (λ u. SameBlocks m u.medium) (sym e) (opened-kept h m a.0 checks)
 
   pub opens-promptly : {v : View} → v ≡ opening_view h m → IsBounded m → (h.book_kind securities).code < 256 → (h.book_kind cash).code < 256 → Prompt h m v.mode

@@ -8,36 +8,8 @@ use Rattle.rulebook.specs.Rules.{Rulebook, Standing, fault_answer, effect}
 use Rattle.device.specs.Medium.{Medium}
 use Rattle.journal.specs.Journal.{record_at, mark_at}
 use Rattle.journal.specs.Blocks.{is_mark, record_in}
+use Rattle.journal.specs.Entries.{after_reads, read_mark_answer, read_record_answer, with_calls_left}
 use Rattle.engine.specs.declared.engine.Recovered.{Recovered}
-
--- a device with another number of calls left
-abbrev pub with_calls : ℕ → Medium → Medium
-with_calls n m = record { size = m.size; holds = m.holds; loose = m.loose; calls_left = n }
-
--- with so many fewer
-abbrev pub drained : ℕ → Medium → Medium
-drained n m = with_calls (m.calls_left - n) m
-
--- a mark that is unreadable is not good
-abbrev pub good : ℕ → Option (List ℕ) → Bool
-good k None = false
-good k (Some bs) = is_mark k bs
-
--- whether mark k is good
-abbrev pub mark_answer : Medium → ℕ → Result Bool Fault
-mark_answer m k = cond (m.calls_left == 0) (Err (in_entry k (fault_at 13 (mark_at k)))) (Ok (good k (m.holds (mark_at k))))
-
-abbrev pub told : ℕ → Result Instruction Refusal → Result Instruction Fault
-told k (Ok x) = Ok x
-told k (Err r) = Err (in_entry k (plain r))
-
-abbrev pub said : ℕ → Option (List ℕ) → Result Instruction Fault
-said k None = Err (in_entry k (fault_at 14 (record_at k)))
-said k (Some bs) = told k (record_in k bs)
-
--- the instruction of record k
-abbrev pub record_answer : Medium → ℕ → Result Instruction Fault
-record_answer m k = cond (m.calls_left == 0) (Err (in_entry k (fault_at 13 (record_at k)))) (said k (m.holds (record_at k)))
 
 -- the rules accept it, or the record is refused
 abbrev pub allowed : ℕ → Instruction → Result (Unit {0}) Fault → Result (Option Instruction) Fault
@@ -51,11 +23,11 @@ ruled h s k (Err f) = Err f
 abbrev pub marked : Rulebook → Medium → Standing → ℕ → Result Bool Fault → Result (Option Instruction) Fault
 marked h m s k (Err f) = Err f
 marked h m s k (Ok false) = Ok None
-marked h m s k (Ok true) = ruled h s k (record_answer (drained 1 m) k)
+marked h m s k (Ok true) = ruled h s k (read_record_answer (after_reads 1 m) k)
 
 -- entry k, where books and trades stand at s: its instruction, or None where the list ends before it
 abbrev pub entry_answer : Rulebook → Medium → Standing → ℕ → Result (Option Instruction) Fault
-entry_answer h m s k = marked h m s k (mark_answer m k)
+entry_answer h m s k = marked h m s k (read_mark_answer m k)
 
 -- the calls that it takes
 abbrev pub spent_by : Result (Option Instruction) Fault → ℕ
@@ -80,17 +52,17 @@ ended m k s last = record { outcome = Ok (record { count = k; last = last }); ca
 
 -- one entry, and what comes after it
 abbrev pub turn : Result (Option Instruction) Fault → Medium → ℕ → Standing → Option Instruction → (Instruction → Scan) → Scan
-turn (Ok None) m k s last onward = ended (drained 1 m) k s last
+turn (Ok None) m k s last onward = ended (after_reads 1 m) k s last
 turn (Ok (Some x)) m k s last onward = onward x
 turn (Err f) m k s last onward = record { outcome = Err f; calls_left = m.calls_left - 2; standing = s }
 
 -- from entry k on, at most n entries
 unfoldable pub scan : Rulebook → ℕ → Medium → ℕ → Standing → Option Instruction → Scan
 scan h zero m k s last = ended m k s last
-scan h (suc n) m k s last = turn (entry_answer h m s k) m k s last (λ x. scan h n (drained 2 m) (k + 1) (effect s x) (Some x))
+scan h (suc n) m k s last = turn (entry_answer h m s k) m k s last (λ x. scan h n (after_reads 2 m) (k + 1) (effect s x) (Some x))
 
 -- a recovery answers what z says, and leaves the device and the books and trades so
 pub record Scanned (z : Scan) (before after : Medium) (s : Standing) (r : Result Recovered Fault) : Type 0 where
   pub answer : r ≡ z.outcome
-  pub device : after ≡ with_calls z.calls_left before
+  pub device : after ≡ with_calls_left z.calls_left before
   pub books : s ≡ z.standing

@@ -12,10 +12,11 @@ use Rattle.journal.specs.declared.header.Header.{Header}
 use Rattle.journal.specs.Journal.{record_at, mark_at}
 use Rattle.journal.specs.Blocks.{header_bytes, record_bytes, mark_bytes}
 use Rattle.journal.specs.Reading.{Proper}
+use Rattle.journal.specs.Headers.{Fits}
 use Rattle.engine.specs.declared.engine.Mode.{Mode}
 use Rattle.engine.specs.declared.engine.Mode.TheVariants.{Open, Down, Refused}
 use Rattle.engine.specs.View.{View}
-use Rattle.engine.specs.Opening.{Fits, header_for_books, last_of}
+use Rattle.engine.specs.Opening.{header_for_books, last_of}
 use Rattle.engine.specs.Lasting.{entry_in, standing_list}
 
 abbrev pub GoodMark : Medium → ℕ → Type 0

@@ -9,6 +9,7 @@ use Rattle.device.specs.Medium.{Medium}
 use Rattle.device.specs.Traces.{DeviceCall, reading, writing, syncing}
 use Rattle.journal.specs.Journal.{record_at, mark_at}
 use Rattle.journal.specs.Blocks.{record_bytes, mark_bytes}
+use Rattle.journal.specs.Entries.{block_read, write_entry_calls}
 use Rattle.engine.specs.declared.engine.Recovered.{Recovered}
 use Rattle.engine.specs.declared.engine.Mode.{Mode}
 use Rattle.engine.specs.declared.engine.Mode.TheVariants.{Open, Down, Refused}
@@ -16,17 +17,9 @@ use Rattle.engine.specs.View.{View}
 use Rattle.engine.specs.Opening.{opening_view}
 use Rattle.engine.specs.Instructing.{check_answer}
 
--- those of an entry: record and sync, mark and sync, up to the first that finds no call left
-abbrev pub entry_calls : ℕ → Instruction → ℕ → List DeviceCall
-entry_calls k x left = take (left + 1) (writing (record_at k) (record_bytes k x) ∷ syncing ∷ writing (mark_at k) (mark_bytes k) ∷ syncing ∷ [])
-
 -- those of an instruction: none where a check refuses it
 abbrev pub instruct_calls : Rulebook → Instruction → View → List DeviceCall
-instruct_calls h x v = if_ok (check_answer h x v) (entry_calls v.entry_count x v.medium.calls_left) []
-
--- a read of a whole block
-abbrev pub block_read : ℕ → DeviceCall
-block_read b = reading b BLOCK_SIZE
+instruct_calls h x v = if_ok (check_answer h x v) (write_entry_calls v.entry_count x v.medium.calls_left) []
 
 -- the mark and the record of each of the first n entries, one entry after another
 unfoldable pub entry_reads : ℕ → List DeviceCall

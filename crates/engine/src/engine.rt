@@ -1,5 +1,6 @@
 // The engine: a device and a ledger under one journal.
 ghost use Rattle.std.specs.Prelude.{◌≤◌, ◌<◌, ◌*◌};
+ghost use Rattle.journal.specs.declared.TheConstants.{MOST_PAIRS};
 
 use book::Book;
 use device::Device;
@@ -34,7 +35,7 @@ pub struct Engine<D: Device, R: Book, C: Book> {
     pub(crate) found: Recovered,
     // entries that stand
     pub(crate) count: u32,
-    ghost few: { pairs ≤ 32767 },
+    ghost few: { pairs ≤ MOST_PAIRS },
     ghost within: { count ≤ pairs },
     ghost fits: { 0 < pairs → 2 * pairs < (D.medium device).size },
 }

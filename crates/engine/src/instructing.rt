@@ -8,10 +8,10 @@ ghost use Rattle.engine.specs.Instructing.{check_answer, TakesInstruction, CutSh
 ghost use Rattle.engine.specs.Tracing.{instruct_calls};
 
 use crate::engine::{Engine, Mode};
-use crate::writing::enter;
 use book::Book;
 use device::Device;
 use instruction::Instruction;
+use journal::write_entry;
 use refusals::{Fault, Refusal};
 use rulebook::fault_about;
 
@@ -45,7 +45,7 @@ impl<D: Device, R: Book, C: Book> Engine<D, R, C> {
             IsTrace D.makes (instruct_calls (rulebook_of R.book_kind C.book_kind) x.now v) self.old.device self.new.device }
     {
         self.check(x)?;
-        if let Err(fault) = enter(&mut self.device, self.count, x) {
+        if let Err(fault) = write_entry(&mut self.device, self.count, x) {
             self.mode = Mode::Down(*x);
             return Err(fault_about(x, fault.in_entry(self.count)));
         }

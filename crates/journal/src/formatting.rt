@@ -7,7 +7,9 @@ ghost use Rattle.journal.specs.Journal.{Journal};
 ghost use Rattle.journal.specs.Places.{FormatPlaces};
 ghost use Rattle.journal.specs.Format.{header_for_kinds, no_room, format_answer, Formats, keep_answer, Kept, blank_answer, Blanked, mark_writes, format_calls};
 
-use crate::header::{Header, MOST_PAIRS};
+use crate::MOST_PAIRS;
+use crate::entry::mark_block_number;
+use crate::header::Header;
 use device::{BLOCK_SIZE, Device};
 use refusals::{Fault, Refusal};
 
@@ -27,7 +29,7 @@ fn keep<D: Device>(device: &mut D, block: u32, bytes: &[u8; BLOCK_SIZE]) -> Resu
 
 // Puts zeros, which are no good mark, in place of the mark of each entry, and syncs.
 fn blank_marks<D: Device>(device: &mut D, pairs: u32) -> Result<(), Fault>
-    requires few { pairs ≤ 32767 }
+    requires few { pairs ≤ MOST_PAIRS }
     requires within { 1 + 2 * pairs ≤ (D.medium device.old).size }
     ensures answer { result ≡ blank_answer pairs (D.medium device.old).calls_left }
     ensures after { Blanked pairs (D.medium device.old) (D.medium device.new) }
@@ -35,7 +37,7 @@ fn blank_marks<D: Device>(device: &mut D, pairs: u32) -> Result<(), Fault>
         device.old device.new }
 {
     for entry in 0..pairs {
-        device.write(2 + 2 * entry, &ZEROS)?;
+        device.write(mark_block_number(entry), &ZEROS)?;
     }
     device.sync()
 }

@@ -1,10 +1,11 @@
 use Rattle.std.proofs.Common.{◌≡◌, ◌-◌, sym, ap, ◌∙◌}
 use Rattle.ledger.specs.View.{rulebook_of}
 use Rattle.device.specs.Medium.{Medium}
+use Rattle.journal.proofs.ReadAnswers.{header-spends, header-unnamed}
 use Rattle.engine.specs.View.{view}
 use Rattle.engine.specs.Opening.{refused_as}
 use Rattle.engine.proofs.Opens.{headed}
-use Rattle.engine.proofs.Readings.{header-spends, header-unnamed, header-read, header-then, opening-traced}
+use Rattle.engine.proofs.Readings.{header-read, header-then, opening-traced}
 use Rattle.engine.proofs.Standings.{opens-well, opens-keeping, opens-promptly}
 use Rattle.engine.proofs.engine.Engine.open.Goals as goal
 
