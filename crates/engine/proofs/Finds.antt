@@ -11,14 +11,14 @@ use Rattle.refusals.specs.Faults.{at_block, in_entry}
 use Rattle.instruction.specs.declared.Instruction.{Instruction}
 use Rattle.rulebook.specs.Rules.{Rulebook, Standing, empty, answer, with_trade, effect, Runs, start, more}
 use Rattle.device.specs.Medium.{Medium, IsBounded}
-use Rattle.journal.specs.Journal.{record_at, mark_at, Good}
+use Rattle.journal.specs.Journal.{record_at, mark_at, MarkIsGood}
 use Rattle.journal.proofs.Survives.{Found}
 use Rattle.journal.specs.Blocks.{mark_bytes, record_in, read_in, no_instruction}
 use Rattle.journal.proofs.Trips.{mark-is, mark-back}
 use Rattle.journal.specs.Entries.{as_entry_fault, is_good, record_block_answer, with_calls_left}
 use Rattle.journal.proofs.ReadAnswers.{mark-bad, mark-good}
 use Rattle.engine.specs.declared.engine.Recovered.{Recovered}
-use Rattle.engine.specs.Recovery.{allowed, ruled, marked, entry_answer, turn, Scan, scan}
+use Rattle.engine.specs.Recovery.{rules_answer, answer_by_record, answer_by_mark, entry_answer, scan_turn, Scan, scan}
 use Rattle.engine.specs.Opening.{last_of}
 use Rattle.engine.specs.Lasting.{blocks_for_books}
 
@@ -81,27 +81,27 @@ module _ (h : Rulebook) (m : Medium) (s : Standing) (k calls : ℕ) where
   on = with_calls_left calls m
 
   no-mark-call : calls ≡ 0 → entry_answer h on s k ≡ Err (in_entry k (at_block NoCalls (mark_at k)))
-  no-mark-call z = ap (marked h on s k) (cond-true (eqb calls 0) _ _ (eq-eqb calls 0 z))
+  no-mark-call z = ap (answer_by_mark h on s k) (cond-true (eqb calls 0) _ _ (eq-eqb calls 0 z))
 
-  mark-answers : (calls ≡ 0 → ⊥) → (b : Bool) → is_good k (m.holds (mark_at k)) ≡ b → entry_answer h on s k ≡ marked h on s k (Ok b)
-  mark-answers some b e = ap (marked h on s k) (cond-false (eqb calls 0) _ _ (ne_eqb calls 0 some) ∙ ap Ok e)
+  mark-answers : (calls ≡ 0 → ⊥) → (b : Bool) → is_good k (m.holds (mark_at k)) ≡ b → entry_answer h on s k ≡ answer_by_mark h on s k (Ok b)
+  mark-answers some b e = ap (answer_by_mark h on s k) (cond-false (eqb calls 0) _ _ (ne_eqb calls 0 some) ∙ ap Ok e)
 
   module _ (some : calls ≡ 0 → ⊥) (marks : is_good k (m.holds (mark_at k)) ≡ true) where
     no-record-call : calls - 1 ≡ 0 → entry_answer h on s k ≡ Err (in_entry k (at_block NoCalls (record_at k)))
-    no-record-call z = mark-answers some true marks ∙ ap (ruled h s k) (cond-true (eqb (calls - 1) 0) _ _ (eq-eqb (calls - 1) 0 z))
+    no-record-call z = mark-answers some true marks ∙ ap (answer_by_record h s k) (cond-true (eqb (calls - 1) 0) _ _ (eq-eqb (calls - 1) 0 z))
 
     entry-read : (calls - 1 ≡ 0 → ⊥) → (bs : List ℕ) (x : Instruction) → m.holds (record_at k) ≡ Some bs → record_in k bs ≡ Ok x → answer h s x ≡ Ok tt
         → entry_answer h on s k ≡ Ok (Some x)
     entry-read more-calls bs x holds is ok =
         mark-answers some true marks
-        ∙ ap (ruled h s k) (cond-false (eqb (calls - 1) 0) _ _ (ne_eqb (calls - 1) 0 more-calls) ∙ ap (record_block_answer k) holds ∙ ap (as_entry_fault k) is)
-        ∙ ap (λ r. allowed k x (with_trade x r)) ok
+        ∙ ap (answer_by_record h s k) (cond-false (eqb (calls - 1) 0) _ _ (ne_eqb (calls - 1) 0 more-calls) ∙ ap (record_block_answer k) holds ∙ ap (as_entry_fault k) is)
+        ∙ ap (λ r. rules_answer k x (with_trade x r)) ok
 
 module _ (h : Rulebook) (pairs : ℕ) (few : pairs ≤ 32767) (m : Medium) (b : IsBounded m) (ws : List Instruction) (f : Found (blocks_for_books h pairs) m ws) (t : Standing) where
   -- what comes after entry k
   abbrev turns : ℕ → ℕ → ℕ → Standing → Option Instruction → Scan
   turns n k calls s last =
-      turn (entry_answer h (with_calls_left calls m) s k) (with_calls_left calls m) k s last (λ x. scan h n (with_calls_left (calls - 2) m) (k + 1) (effect s x) (Some x))
+      scan_turn (entry_answer h (with_calls_left calls m) s k) (with_calls_left calls m) k s last (λ x. scan h n (with_calls_left (calls - 2) m) (k + 1) (effect s x) (Some x))
 
   -- past the list the mark is not good
   stops : (n k calls : ℕ) (s : Standing) (last : Option Instruction) → k < pairs → k ≡ length ws → t ≡ s → last ≡ last_of ws → Ends (turns n k calls s last) (suc n) calls ws t
@@ -109,7 +109,7 @@ module _ (h : Rulebook) (pairs : ℕ) (few : pairs ≤ 32767) (m : Medium) (b : 
       elim (cases_eq calls 0) [
         | inl z ↦ rw (no-mark-call h m s k calls z) (ends-refused _ (suc n) calls (calls - 2) s refl (omega arith) (omega arith))
         | inr some ↦
-            let bad : m.holds (mark_at k) ≡ Some (mark_bytes k) → ⊥ = subst (λ j. Good (blocks_for_books h pairs) m j → ⊥) (sym ek) (f.stop (omega arith)) in
+            let bad : m.holds (mark_at k) ≡ Some (mark_bytes k) → ⊥ = subst (λ j. MarkIsGood (blocks_for_books h pairs) m j → ⊥) (sym ek) (f.stop (omega arith)) in
             rw (mark-answers h m s k calls some false (mark-bad m k b bad)) (ends-found k (suc n) calls (calls - 1) s last ek el es (omega arith))
       ]
 

@@ -11,7 +11,7 @@ use Rattle.rulebook.specs.Terms.{securities, cash}
 use Rattle.rulebook.specs.Rules.{Rulebook, Standing, empty, effect, Runs, more}
 use Rattle.device.specs.Medium.{Medium, IsBounded}
 use Rattle.device.specs.Calls.{SameBlocks}
-use Rattle.journal.specs.Journal.{JournalBlocks, mark_at, Good, Says, Journal}
+use Rattle.journal.specs.Journal.{JournalBlocks, mark_at, MarkIsGood, Says, Journal}
 use Rattle.journal.specs.Blocks.{header_bytes, no_instruction}
 use Rattle.journal.proofs.Trips.{header-read}
 use Rattle.journal.proofs.Survives.{Found, looking, found-one, idle-found}
@@ -21,8 +21,8 @@ use Rattle.journal.proofs.ReadAnswers.{mark-good, mark-tested}
 use Rattle.engine.specs.declared.engine.Recovered.{Recovered}
 use Rattle.engine.specs.Recovery.{Scan, scan}
 use Rattle.engine.specs.View.{View}
-use Rattle.engine.specs.Opening.{scanned_as, scanned_on, refused_as, opened_on, opening_view, header_for_books}
-use Rattle.engine.specs.Lasting.{record_says, entry_in, standing_list, blocks_for_books}
+use Rattle.engine.specs.Opening.{outcome_view, scan_view, refused_view, view_by_header, opening_view, header_for_books}
+use Rattle.engine.specs.Lasting.{record_contents, entry_instruction, standing_list, blocks_for_books}
 use Rattle.engine.proofs.Keeping.{Lawful, WithOrWithout, OpenedOn}
 use Rattle.engine.proofs.Finds.{Ends, calls-find}
 
@@ -34,8 +34,8 @@ module _ (h : Rulebook) (pairs : ℕ) where
   abbrev L : JournalBlocks Instruction
   L = blocks_for_books h pairs
 
-  entry-is : (m : Medium) (k : ℕ) (x : Instruction) → Says L m k x → entry_in m k ≡ x
-  entry-is m k x q = ap (λ o. unwrap_or (record_says k o) no_instruction) q.1.0 ∙ ap (λ r. unwrap_or r no_instruction) q.2
+  entry-is : (m : Medium) (k : ℕ) (x : Instruction) → Says L m k x → entry_instruction m k ≡ x
+  entry-is m k x q = ap (λ o. unwrap_or (record_contents k o) no_instruction) q.1.0 ∙ ap (λ r. unwrap_or r no_instruction) q.2
 
   listed-to : (m : Medium) (xs : List Instruction) (hand : Option Instruction) → Journal L m xs hand → (n : ℕ) → n ≤ length xs → standing_list m n ≡ take n xs
   unfolding standing_list
@@ -50,7 +50,7 @@ module _ (h : Rulebook) (pairs : ℕ) where
   listed-is {m} {xs} {hand} j = listed-to m xs hand j (length xs) (omega arith) ∙ take_all (length xs) xs (omega arith)
 
   -- the mark after the list is not good
-  found-without : (m : Medium) (xs : List Instruction) (hand : Option Instruction) → Journal L m xs hand → (Good L m (length xs) → ⊥) → Found L m xs
+  found-without : (m : Medium) (xs : List Instruction) (hand : Option Instruction) → Journal L m xs hand → (MarkIsGood L m (length xs) → ⊥) → Found L m xs
   found-without m xs hand j bad =
       record {
         room = j.room;
@@ -60,7 +60,7 @@ module _ (h : Rulebook) (pairs : ℕ) where
       }
 
   -- it is, and then so is the record
-  found-with : (m : Medium) (xs : List Instruction) (x : Instruction) → Journal L m xs (Some x) → Good L m (length xs) → Found L m (xs ++ (x ∷ []))
+  found-with : (m : Medium) (xs : List Instruction) (x : Instruction) → Journal L m xs (Some x) → MarkIsGood L m (length xs) → Found L m (xs ++ (x ∷ []))
   found-with m xs x j marks =
       let n = length xs in
       let p = length_push xs x in
@@ -68,7 +68,7 @@ module _ (h : Rulebook) (pairs : ℕ) where
       record {
         room = omega (arith, j.tail.0);
         marks = λ k l.
-            ⊎_elim (λ (e : k ≡ n). subst (Good L m) (sym e) marks) (λ ne. (j.marks k (omega arith)).0) (cases_eq k n);
+            ⊎_elim (λ (e : k ≡ n). subst (MarkIsGood L m) (sym e) marks) (λ ne. (j.marks k (omega arith)).0) (cases_eq k n);
         records = λ k l.
             ⊎_elim (λ (e : k ≡ n). rw (get_or_push xs x no_instruction k (sym e), e) (says.0, says.1.0, says.2))
             (λ ne. rw (get_or_append_left xs (x ∷ []) no_instruction k (omega arith)) (let q = j.records k (omega arith) in (q.0, q.1.0, q.2)))
@@ -99,7 +99,7 @@ module _ (h : Rulebook) (pairs : ℕ) where
   -- a recovery of that list, by its answer
   scan-opens : (m : Medium) (xs : List Instruction) (hand : Option Instruction) (ws : List Instruction) (s : Standing) (z : Scan) → pairs ≤ 32767 → 0 < m.calls_left → Journal L m xs hand
       → WithOrWithout xs hand ws → Journal L m ws None → Runs h ws s → Ends z pairs (m.calls_left - 1) ws s
-      → (r : Result Recovered Fault) → z.outcome ≡ r → OpenedOn h pairs m xs hand (scanned_as r pairs (with_calls_left z.calls_left m) z.standing)
+      → (r : Result Recovered Fault) → z.outcome ≡ r → OpenedOn h pairs m xs hand (outcome_view r pairs (with_calls_left z.calls_left m) z.standing)
   scan-opens m xs hand ws s z few l j which kept runs ends (Ok found) e =
       let o = ends.only found e in
       let fewer : z.calls_left ≤ m.calls_left = omega (arith, ends.fewer) in
@@ -143,11 +143,11 @@ module _ (h : Rulebook) (pairs : ℕ) where
     one-spent = cond-false (leb m.size 0) m (after_reads 1 m) sized
 
     -- without a call the header is not read
-    no-header : m.calls_left ≡ 0 → opening_view h m ≡ refused_as (at_block NoCalls 0) (after_reads 1 m)
+    no-header : m.calls_left ≡ 0 → opening_view h m ≡ refused_view (at_block NoCalls 0) (after_reads 1 m)
     no-header z =
         let e : read_header_answer register money m ≡ Err (at_block NoCalls 0) =
         cond-false (leb m.size 0) _ _ sized ∙ cond-true (eqb m.calls_left 0) _ _ (eq-eqb m.calls_left 0 z) in
-        (λ i. opened_on h (one-spent i) (e i))
+        (λ i. view_by_header h (one-spent i) (e i))
 
     -- it is for these books, and the device has its blocks
     header-right : register < 256 → money < 256 → m.holds 0 ≡ Some (header_bytes (header_for_books h pairs)) → header_block_answer register money m.size (m.holds 0) ≡ Ok pairs
@@ -156,14 +156,14 @@ module _ (h : Rulebook) (pairs : ℕ) where
         ∙ rw (eq-eqb register register refl, eq-eqb money money refl) (cond-false (ltb m.size (1 + 2 * pairs)) _ _ (le-ltb m.size (1 + 2 * pairs) within))
 
     pub then-scanned : (m.calls_left ≡ 0 → ⊥) → register < 256 → money < 256 → m.holds 0 ≡ Some (header_bytes (header_for_books h pairs))
-        → opening_view h m ≡ scanned_on pairs (after_reads 1 m) (scan h pairs (after_reads 1 m) 0 empty None)
+        → opening_view h m ≡ scan_view pairs (after_reads 1 m) (scan h pairs (after_reads 1 m) 0 empty None)
     then-scanned left r c held =
         let e : read_header_answer register money m ≡ Ok pairs =
         cond-false (leb m.size 0) _ _ sized ∙ cond-false (eqb m.calls_left 0) _ _ (ne_eqb m.calls_left 0 left) ∙ header-right r c held in
-        (λ i. opened_on h (one-spent i) (e i))
+        (λ i. view_by_header h (one-spent i) (e i))
 
     module _ (xs : List Instruction) (hand : Option Instruction) (b : IsBounded m) (j : Journal L m xs hand) where
-      opens-without : m.calls_left ≡ 0 → OpenedOn h pairs m xs hand (refused_as (at_block NoCalls 0) (after_reads 1 m))
+      opens-without : m.calls_left ≡ 0 → OpenedOn h pairs m xs hand (refused_view (at_block NoCalls 0) (after_reads 1 m))
       opens-without z =
           let fewer : m.calls_left - 1 ≤ m.calls_left = omega arith in
           record {
@@ -173,7 +173,7 @@ module _ (h : Rulebook) (pairs : ℕ) where
             found = (refl, looking L m (after_reads 1 m) xs hand j (fewer-calls m (m.calls_left - 1)) fewer);
           }
 
-      opens-scanned : (m.calls_left ≡ 0 → ⊥) → Lawful h xs hand → OpenedOn h pairs m xs hand (scanned_on pairs (after_reads 1 m) (scan h pairs (after_reads 1 m) 0 empty None))
+      opens-scanned : (m.calls_left ≡ 0 → ⊥) → Lawful h xs hand → OpenedOn h pairs m xs hand (scan_view pairs (after_reads 1 m) (scan h pairs (after_reads 1 m) 0 empty None))
       opens-scanned left lawful =
           let w = list-found m xs hand few b (omega arith) j in
           let to = leads-on xs hand w.0 lawful w.2 in

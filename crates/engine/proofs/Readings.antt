@@ -11,7 +11,7 @@ use Rattle.device.specs.Traces.{DeviceCall, reading, writing, syncing, restartin
 use Rattle.device.proofs.Traces.{traced-append, traced-on, only_reads-append}
 use Rattle.journal.specs.Journal.{record_at, mark_at}
 use Rattle.journal.specs.Blocks.{record_in}
-use Rattle.engine.specs.Recovery.{allowed, ruled, marked, entry_answer}
+use Rattle.engine.specs.Recovery.{rules_answer, answer_by_record, answer_by_mark, entry_answer}
 use Rattle.journal.specs.declared.header.Header.{Header}
 use Rattle.journal.specs.Blocks.{header_in}
 use Rattle.journal.specs.Entries.{after_reads, as_entry_fault, block_read, is_good, read_mark_answer, read_record_answer, record_block_answer}
@@ -20,19 +20,19 @@ use Rattle.journal.proofs.ReadAnswers.{mark-refused, mark-spends, record-names, 
 use Rattle.engine.specs.declared.engine.Mode.{Mode}
 use Rattle.engine.specs.declared.engine.Mode.TheVariants.{Open, Down, Refused}
 use Rattle.engine.specs.View.{View}
-use Rattle.engine.specs.Opening.{refused_as, opening_view}
-use Rattle.engine.specs.Tracing.{entry_reads, list_reads, refused_reads, opened_reads, opening_calls}
+use Rattle.engine.specs.Opening.{refused_view, opening_view}
+use Rattle.engine.specs.Tracing.{entry_reads, list_reads, refused_reads, view_reads, opening_calls}
 
-allowed-names : (k : ℕ) (x : Instruction) (r : Result (Unit {0}) Fault) (f : Fault) → allowed k x r ≡ Err f → f.entry ≡ Some k
+allowed-names : (k : ℕ) (x : Instruction) (r : Result (Unit {0}) Fault) (f : Fault) → rules_answer k x r ≡ Err f → f.entry ≡ Some k
 allowed-names k x (Ok u) f e = absurd cc
 allowed-names k x (Err g) f e = cc
 
 module _ (h : Rulebook) (s : Standing) (k : ℕ) where
-  ruled-names : (r : Result Instruction Fault) (f : Fault) → ((g : Fault) → r ≡ Err g → g.entry ≡ Some k) → ruled h s k r ≡ Err f → f.entry ≡ Some k
+  ruled-names : (r : Result Instruction Fault) (f : Fault) → ((g : Fault) → r ≡ Err g → g.entry ≡ Some k) → answer_by_record h s k r ≡ Err f → f.entry ≡ Some k
   ruled-names (Ok x) f names e = allowed-names k x (fault_answer h s x) f e
   ruled-names (Err g) f names e = names f (cc)
 
-  marked-names : (m : Medium) (r : Result Bool Fault) (f : Fault) → ((g : Fault) → r ≡ Err g → g.entry ≡ Some k) → marked h m s k r ≡ Err f → f.entry ≡ Some k
+  marked-names : (m : Medium) (r : Result Bool Fault) (f : Fault) → ((g : Fault) → r ≡ Err g → g.entry ≡ Some k) → answer_by_mark h m s k r ≡ Err f → f.entry ≡ Some k
   marked-names m (Ok true) f names e = ruled-names (read_record_answer (after_reads 1 m) k) f (λ g. record-names (after_reads 1 m) k g) e
   marked-names m (Ok false) f names e = absurd cc
   marked-names m (Err g) f names e = names f cc
@@ -113,11 +113,11 @@ module _ {D : Type 0} (makes : D → DeviceCall → D → Type 0) where
 
 -- the calls that an entry took
 module _ (h : Rulebook) (s : Standing) (k : ℕ) where
-  ruled-from : (x : Instruction) (r : Result Instruction Fault) → ruled h s k r ≡ Ok (Some x) → (y : Instruction) × (r ≡ Ok y)
+  ruled-from : (x : Instruction) (r : Result Instruction Fault) → answer_by_record h s k r ≡ Ok (Some x) → (y : Instruction) × (r ≡ Ok y)
   ruled-from x (Ok y) e = (y, refl)
   ruled-from x (Err f) e = absurd cc
 
-  marked-two : (m : Medium) (x : Instruction) (r : Result Bool Fault) → r ≡ read_mark_answer m k → marked h m s k r ≡ Ok (Some x) → 2 ≤ m.calls_left
+  marked-two : (m : Medium) (x : Instruction) (r : Result Bool Fault) → r ≡ read_mark_answer m k → answer_by_mark h m s k r ≡ Ok (Some x) → 2 ≤ m.calls_left
   marked-two m x (Ok true) is e =
       let one = mark-spends m k true is in
       let y = ruled-from x (read_record_answer (after_reads 1 m) k) e in
@@ -142,13 +142,13 @@ module _ {D : Type 0} (makes : D → DeviceCall → D → Type 0) where
       traced-on makes (block_read 0 ∷ []) calls left (left - 1) d e f (omega arith) (all-made makes left (block_read 0 ∷ []) d e (omega arith) s) t
 
   -- by the view of the engine
-  pub refused-traced : (left : ℕ) (v : View) (f : Fault) (m : Medium) (d e : D) → v ≡ refused_as f m → IsTrace makes (take (left + 1) (refused_reads f.entry)) d e
-      → IsTrace makes (take (left + 1) (opened_reads v.mode v)) d e
-  refused-traced left v f m d e is t = subst (λ (u : View). IsTrace makes (take (left + 1) (opened_reads u.mode u)) d e) (sym is) t
+  pub refused-traced : (left : ℕ) (v : View) (f : Fault) (m : Medium) (d e : D) → v ≡ refused_view f m → IsTrace makes (take (left + 1) (refused_reads f.entry)) d e
+      → IsTrace makes (take (left + 1) (view_reads v.mode v)) d e
+  refused-traced left v f m d e is t = subst (λ (u : View). IsTrace makes (take (left + 1) (view_reads u.mode u)) d e) (sym is) t
 
-  pub opening-traced : (h : Rulebook) (m : Medium) (v : View) (d e : D) → v ≡ opening_view h m → IsTrace makes (take (m.calls_left + 1) (block_read 0 ∷ opened_reads v.mode v)) d e
+  pub opening-traced : (h : Rulebook) (m : Medium) (v : View) (d e : D) → v ≡ opening_view h m → IsTrace makes (take (m.calls_left + 1) (block_read 0 ∷ view_reads v.mode v)) d e
       → IsTrace makes (opening_calls h m) d e
-  opening-traced h m v d e is t = subst (λ (u : View). IsTrace makes (take (m.calls_left + 1) (block_read 0 ∷ opened_reads u.mode u)) d e) is t
+  opening-traced h m v d e is t = subst (λ (u : View). IsTrace makes (take (m.calls_left + 1) (block_read 0 ∷ view_reads u.mode u)) d e) is t
 
 -- an opening makes no other calls than reads
 
@@ -165,7 +165,7 @@ refused-read : (o : Option ℕ) → only_reads (refused_reads o) ≡ true
 refused-read None = refl
 refused-read (Some k) = entries-read (k + 1)
 
-opened-read : (mode : Mode) (v : View) → only_reads (opened_reads mode v) ≡ true
+opened-read : (mode : Mode) (v : View) → only_reads (view_reads mode v) ≡ true
 opened-read Open v =
     only_reads-append (entry_reads v.found) (cond (ltb v.found v.pairs) (block_read (mark_at v.found) ∷ []) []) (entries-read v.found) (last-read v.found (ltb v.found v.pairs))
 opened-read (Down x) v = refl
@@ -182,7 +182,7 @@ taken-read (suc n) (restarting left remains ∷ calls) e = absurd cc
 pub opening-reads : (h : Rulebook) (m : Medium) → only_reads (opening_calls h m) ≡ true
 opening-reads h m =
     let v = opening_view h m in
-    taken-read (m.calls_left + 1) (block_read 0 ∷ opened_reads v.mode v) (opened-read v.mode v)
+    taken-read (m.calls_left + 1) (block_read 0 ∷ view_reads v.mode v) (opened-read v.mode v)
 
 -- what an opening went through were reads
 pub opens-reading : {D : Type 0} (makes : D → DeviceCall → D → Type 0) (h : Rulebook) (m : Medium) (d e : D) → IsTrace makes (opening_calls h m) d e → ReadOnly makes d e

@@ -8,7 +8,7 @@ use Rattle.engine.specs.declared.engine.Mode.TheVariants.{Open, Down, Refused}
 use Rattle.engine.specs.declared.slip.Slip.{Slip}
 use Rattle.engine.specs.declared.slip.Contents.{Contents}
 use Rattle.engine.specs.declared.slip.Verdict.{Verdict}
-use Rattle.engine.specs.ClosingSlip.{contents, slip_verdict, unknown}
+use Rattle.engine.specs.ClosingSlip.{contents, slip_verdict, unknown_contents}
 use Rattle.engine.specs.View.{View}
 
 -- the answer of its opening
@@ -28,16 +28,16 @@ if_answering (Refused f) r = Err (numbered 41)
 abbrev pub contents_by_mode : Mode → ℕ → Option Contents
 contents_by_mode Open n = Some (record { entries = n; hand = None })
 contents_by_mode (Down x) n = Some (record { entries = n; hand = Some x })
-contents_by_mode (Refused f) n = unknown
+contents_by_mode (Refused f) n = unknown_contents
 
 abbrev pub closing_contents : View → Option Contents
 closing_contents v = contents_by_mode v.mode v.entry_count
 
 -- the verdict on a slip, or the slip itself where the opening was refused
-abbrev pub verdict_by : Mode → View → Slip → Result Verdict (Refusal × Slip)
-verdict_by Open v s = Ok (slip_verdict (contents s) v.found v.last_found)
-verdict_by (Down x) v s = Ok (slip_verdict (contents s) v.found v.last_found)
-verdict_by (Refused f) v s = Err (numbered 41, s)
+abbrev pub present_answer_by_mode : Mode → View → Slip → Result Verdict (Refusal × Slip)
+present_answer_by_mode Open v s = Ok (slip_verdict (contents s) v.found v.last_found)
+present_answer_by_mode (Down x) v s = Ok (slip_verdict (contents s) v.found v.last_found)
+present_answer_by_mode (Refused f) v s = Err (numbered 41, s)
 
-abbrev pub presented : View → Slip → Result Verdict (Refusal × Slip)
-presented v s = verdict_by v.mode v s
+abbrev pub present_answer : View → Slip → Result Verdict (Refusal × Slip)
+present_answer v s = present_answer_by_mode v.mode v s

@@ -3,7 +3,7 @@ use Rattle.std.specs.Prelude.{◌≡◌, ℕ, ◌+◌, Bool, false, cond, ◌&&�
 use Rattle.refusals.specs.declared.Refusal.{Refusal}
 use Rattle.refusals.specs.declared.Place.{Place}
 use Rattle.refusals.specs.declared.Place.TheVariants.{Engine}
-use Rattle.refusals.specs.Numbers.{number_of as refusal_number}
+use Rattle.refusals.specs.Numbers.{verdict_number as refusal_number}
 use Rattle.instruction.specs.declared.Instruction.{Instruction}
 use Rattle.engine.specs.declared.slip.Slip.{Slip}
 use Rattle.engine.specs.declared.slip.Contents.{Contents}
@@ -18,15 +18,15 @@ abbrev pub IsOwed : Slip → Type 0
 IsOwed s = s.spent ≡ false
 
 -- the slip of an engine whose opening was refused
-abbrev pub unknown : Option Contents
-unknown = None
+abbrev pub unknown_contents : Option Contents
+unknown_contents = None
 
 -- the verdicts' numbers, as operators know them
-abbrev pub number_of : Verdict → ℕ
-number_of Same = 0
-number_of Stands = 1
-number_of Unknown = 53
-number_of Differs = 54
+abbrev pub verdict_number : Verdict → ℕ
+verdict_number Same = 0
+verdict_number Stands = 1
+verdict_number Unknown = 53
+verdict_number Differs = 54
 
 -- and the part that gives them
 abbrev pub verdict_place : Verdict → Place
@@ -37,7 +37,7 @@ verdict_place Differs = Engine
 
 -- the number of what a slip that is presented is answered: the verdict's, or the refusal's
 abbrev pub presented_number : Result Verdict Refusal → ℕ
-presented_number (Ok v) = number_of v
+presented_number (Ok v) = verdict_number v
 presented_number (Err r) = refusal_number r
 
 -- no two of these answers share a number
@@ -50,15 +50,15 @@ same_fields x y =
     && (x.currency == y.currency && (x.trade == y.trade && (x.quantity == y.quantity && x.amount == y.amount))))))
 
 -- an instruction is in hand, and it is the last that was found
-abbrev pub is_last : Option Instruction → Option Instruction → Bool
-is_last (Some x) (Some y) = same_fields x y
-is_last (Some x) None = false
-is_last None last = false
+abbrev pub is_last_found : Option Instruction → Option Instruction → Bool
+is_last_found (Some x) (Some y) = same_fields x y
+is_last_found (Some x) None = false
+is_last_found None last = false
 
 -- the verdict on a slip where n entries were found, the last of them as said
 abbrev pub slip_verdict : Option Contents → ℕ → Option Instruction → Verdict
 slip_verdict None n last = Unknown
-slip_verdict (Some s) n last = cond (n == s.entries) Same (cond (n == s.entries + 1 && is_last s.hand last) Stands Differs)
+slip_verdict (Some s) n last = cond (n == s.entries) Same (cond (n == s.entries + 1 && is_last_found s.hand last) Stands Differs)
 
 -- The same in words.
 abbrev pub HasVerdict : Option Contents → ℕ → Option Instruction → Verdict → Type 0

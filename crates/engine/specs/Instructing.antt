@@ -13,18 +13,18 @@ use Rattle.engine.specs.declared.engine.Mode.TheVariants.{Open, Down, Refused}
 use Rattle.engine.specs.View.{View}
 
 -- only an open engine goes on to what comes next
-abbrev pub ready : Mode → Instruction → Answer → Answer
-ready Open x next = next
-ready (Down y) x next = Err (fault_of x (numbered 42))
-ready (Refused f) x next = Err (fault_of x (numbered 41))
+abbrev pub if_open : Mode → Instruction → Answer → Answer
+if_open Open x next = next
+if_open (Down y) x next = Err (fault_of x (numbered 42))
+if_open (Refused f) x next = Err (fault_of x (numbered 41))
 
 -- all entries are used
-abbrev pub room_for : Instruction → View → Answer
-room_for x v = cond (nat_le v.pairs v.entry_count) (Err (fault_of x (numbered 36))) (Ok tt)
+abbrev pub room_answer : Instruction → View → Answer
+room_answer x v = cond (nat_le v.pairs v.entry_count) (Err (fault_of x (numbered 36))) (Ok tt)
 
 -- the checks of an instruction in order, before anything is written: the engine, the rules, the room
 abbrev pub check_answer : Rulebook → Instruction → View → Answer
-check_answer h x v = ready v.mode x (and_then (fault_answer h v.standing x) (room_for x v))
+check_answer h x v = if_open v.mode x (and_then (fault_answer h v.standing x) (room_answer x v))
 
 -- a fault met within entry k, where x was written
 abbrev pub within_entry : Instruction → ℕ → Answer → Answer
@@ -81,16 +81,16 @@ pub record IsFaultOf (x : Instruction) (b k : Option ℕ) (f : Fault) : Type 0 w
 
 -- the block of the write that found no call left, by the calls left for an entry: that of its
 -- record, of its mark, or none where it was a sync
-abbrev pub cut_at : ℕ → ℕ → Option ℕ
-cut_at k left = cond (left == 0) (Some (record_at k)) (cond (left == 2) (Some (mark_at k)) None)
+abbrev pub block_without_call : ℕ → ℕ → Option ℕ
+block_without_call k left = cond (left == 0) (Some (record_at k)) (cond (left == 2) (Some (mark_at k)) None)
 
 -- The answer is 13 exactly where the checks pass and fewer than 4 calls are left. That instruction is
 -- then in hand, and the engine is down. Such a fault names the entry, and the block of a write; one of
 -- the checks names neither.
-pub record CutShort (h : Rulebook) (x : Instruction) (v v' : View) (r : Answer) : Type 0 where
+pub record TellsWhenDown (h : Rulebook) (x : Instruction) (v v' : View) (r : Answer) : Type 0 where
   pub only : fault_number r ≡ 13 → Passes h x v × (v.medium.calls_left < 4)
   pub always : Passes h x v → v.medium.calls_left < 4 → fault_number r ≡ 13
   pub hand : fault_number r ≡ 13 → v'.mode ≡ Down x
   pub cut : (f : Fault) → r ≡ Err f → number_of f.refusal ≡ 13
-      → IsFaultOf x (cut_at v.entry_count v.medium.calls_left) (Some v.entry_count) f
+      → IsFaultOf x (block_without_call v.entry_count v.medium.calls_left) (Some v.entry_count) f
   pub check : (f : Fault) → r ≡ Err f → number_of f.refusal ≢ 13 → IsFaultOf x None None f

@@ -18,26 +18,26 @@ use Rattle.engine.specs.View.{View}
 use Rattle.engine.specs.Recovery.{Scan, scan}
 
 -- an engine whose opening was refused: books and trades are cleared
-abbrev pub refused_as : Fault → Medium → View
-refused_as f m = record { mode = Refused f; medium = m; standing = empty; pairs = 0; found = 0; last_found = None; entry_count = 0 }
+abbrev pub refused_view : Fault → Medium → View
+refused_view f m = record { mode = Refused f; medium = m; standing = empty; pairs = 0; found = 0; last_found = None; entry_count = 0 }
 
-abbrev pub found_as : Recovered → ℕ → Medium → Standing → View
-found_as r pairs m s = record { mode = Open; medium = m; standing = s; pairs = pairs; found = r.count; last_found = r.last; entry_count = r.count }
+abbrev pub found_view : Recovered → ℕ → Medium → Standing → View
+found_view r pairs m s = record { mode = Open; medium = m; standing = s; pairs = pairs; found = r.count; last_found = r.last; entry_count = r.count }
 
-abbrev pub scanned_as : Result Recovered Fault → ℕ → Medium → Standing → View
-scanned_as (Ok r) pairs m s = found_as r pairs m s
-scanned_as (Err f) pairs m s = refused_as f m
+abbrev pub outcome_view : Result Recovered Fault → ℕ → Medium → Standing → View
+outcome_view (Ok r) pairs m s = found_view r pairs m s
+outcome_view (Err f) pairs m s = refused_view f m
 
-abbrev pub scanned_on : ℕ → Medium → Scan → View
-scanned_on pairs m z = scanned_as z.outcome pairs (with_calls_left z.calls_left m) z.standing
+abbrev pub scan_view : ℕ → Medium → Scan → View
+scan_view pairs m z = outcome_view z.outcome pairs (with_calls_left z.calls_left m) z.standing
 
-abbrev pub opened_on : Rulebook → Medium → Result ℕ Fault → View
-opened_on h m (Err f) = refused_as f m
-opened_on h m (Ok pairs) = scanned_on pairs m (scan h pairs m 0 empty None)
+abbrev pub view_by_header : Rulebook → Medium → Result ℕ Fault → View
+view_by_header h m (Err f) = refused_view f m
+view_by_header h m (Ok pairs) = scan_view pairs m (scan h pairs m 0 empty None)
 
 -- the engine that an opening of the device gives
 abbrev pub opening_view : Rulebook → Medium → View
-opening_view h m = opened_on h (after_read_header m) (read_header_answer (h.book_kind securities).code (h.book_kind cash).code m)
+opening_view h m = view_by_header h (after_read_header m) (read_header_answer (h.book_kind securities).code (h.book_kind cash).code m)
 
 -- the header of a journal for these books, of so many pairs
 abbrev pub header_for_books : Rulebook → ℕ → Header

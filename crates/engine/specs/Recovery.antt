@@ -12,34 +12,34 @@ use Rattle.journal.specs.Entries.{after_reads, read_mark_answer, read_record_ans
 use Rattle.engine.specs.declared.engine.Recovered.{Recovered}
 
 -- the rules accept it, or the record is refused
-abbrev pub allowed : ℕ → Instruction → Result (Unit {0}) Fault → Result (Option Instruction) Fault
-allowed k x (Ok u) = Ok (Some x)
-allowed k x (Err f) = Err (of_record k f)
+abbrev pub rules_answer : ℕ → Instruction → Result (Unit {0}) Fault → Result (Option Instruction) Fault
+rules_answer k x (Ok u) = Ok (Some x)
+rules_answer k x (Err f) = Err (of_record k f)
 
-abbrev pub ruled : Rulebook → Standing → ℕ → Result Instruction Fault → Result (Option Instruction) Fault
-ruled h s k (Ok x) = allowed k x (fault_answer h s x)
-ruled h s k (Err f) = Err f
+abbrev pub answer_by_record : Rulebook → Standing → ℕ → Result Instruction Fault → Result (Option Instruction) Fault
+answer_by_record h s k (Ok x) = rules_answer k x (fault_answer h s x)
+answer_by_record h s k (Err f) = Err f
 
-abbrev pub marked : Rulebook → Medium → Standing → ℕ → Result Bool Fault → Result (Option Instruction) Fault
-marked h m s k (Err f) = Err f
-marked h m s k (Ok false) = Ok None
-marked h m s k (Ok true) = ruled h s k (read_record_answer (after_reads 1 m) k)
+abbrev pub answer_by_mark : Rulebook → Medium → Standing → ℕ → Result Bool Fault → Result (Option Instruction) Fault
+answer_by_mark h m s k (Err f) = Err f
+answer_by_mark h m s k (Ok false) = Ok None
+answer_by_mark h m s k (Ok true) = answer_by_record h s k (read_record_answer (after_reads 1 m) k)
 
 -- entry k, where books and trades stand at s: its instruction, or None where the list ends before it
 abbrev pub entry_answer : Rulebook → Medium → Standing → ℕ → Result (Option Instruction) Fault
-entry_answer h m s k = marked h m s k (read_mark_answer m k)
+entry_answer h m s k = answer_by_mark h m s k (read_mark_answer m k)
 
 -- the calls that it takes
-abbrev pub spent_by : Result (Option Instruction) Fault → ℕ
-spent_by (Ok None) = 1
-spent_by (Ok (Some x)) = 2
-spent_by (Err f) = 2
+abbrev pub calls_spent : Result (Option Instruction) Fault → ℕ
+calls_spent (Ok None) = 1
+calls_spent (Ok (Some x)) = 2
+calls_spent (Err f) = 2
 
 -- books and trades after it
-abbrev pub leads_to : Standing → Result (Option Instruction) Fault → Standing
-leads_to s (Ok None) = s
-leads_to s (Ok (Some x)) = effect s x
-leads_to s (Err f) = s
+abbrev pub standing_after : Standing → Result (Option Instruction) Fault → Standing
+standing_after s (Ok None) = s
+standing_after s (Ok (Some x)) = effect s x
+standing_after s (Err f) = s
 
 -- what a recovery answers, and the calls left and the books and trades after it
 pub record Scan : Type 0 where
@@ -47,22 +47,22 @@ pub record Scan : Type 0 where
   pub calls_left : ℕ
   pub standing : Standing
 
-abbrev pub ended : Medium → ℕ → Standing → Option Instruction → Scan
-ended m k s last = record { outcome = Ok (record { count = k; last = last }); calls_left = m.calls_left; standing = s }
+abbrev pub scan_end : Medium → ℕ → Standing → Option Instruction → Scan
+scan_end m k s last = record { outcome = Ok (record { count = k; last = last }); calls_left = m.calls_left; standing = s }
 
 -- one entry, and what comes after it
-abbrev pub turn : Result (Option Instruction) Fault → Medium → ℕ → Standing → Option Instruction → (Instruction → Scan) → Scan
-turn (Ok None) m k s last onward = ended (after_reads 1 m) k s last
-turn (Ok (Some x)) m k s last onward = onward x
-turn (Err f) m k s last onward = record { outcome = Err f; calls_left = m.calls_left - 2; standing = s }
+abbrev pub scan_turn : Result (Option Instruction) Fault → Medium → ℕ → Standing → Option Instruction → (Instruction → Scan) → Scan
+scan_turn (Ok None) m k s last onward = scan_end (after_reads 1 m) k s last
+scan_turn (Ok (Some x)) m k s last onward = onward x
+scan_turn (Err f) m k s last onward = record { outcome = Err f; calls_left = m.calls_left - 2; standing = s }
 
 -- from entry k on, at most n entries
 unfoldable pub scan : Rulebook → ℕ → Medium → ℕ → Standing → Option Instruction → Scan
-scan h zero m k s last = ended m k s last
-scan h (suc n) m k s last = turn (entry_answer h m s k) m k s last (λ x. scan h n (after_reads 2 m) (k + 1) (effect s x) (Some x))
+scan h zero m k s last = scan_end m k s last
+scan h (suc n) m k s last = scan_turn (entry_answer h m s k) m k s last (λ x. scan h n (after_reads 2 m) (k + 1) (effect s x) (Some x))
 
 -- a recovery answers what z says, and leaves the device and the books and trades so
-pub record Scanned (z : Scan) (before after : Medium) (s : Standing) (r : Result Recovered Fault) : Type 0 where
+pub record FollowsScan (z : Scan) (before after : Medium) (s : Standing) (r : Result Recovered Fault) : Type 0 where
   pub answer : r ≡ z.outcome
   pub device : after ≡ with_calls_left z.calls_left before
   pub books : s ≡ z.standing

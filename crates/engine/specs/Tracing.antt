@@ -44,18 +44,18 @@ refused_reads None = []
 refused_reads (Some k) = entry_reads (k + 1)
 
 -- what is read after the header, by what was found
-abbrev pub found_reads : Result Recovered Fault → ℕ → List DeviceCall
-found_reads (Ok found) pairs = list_reads found.count pairs
-found_reads (Err f) pairs = refused_reads f.entry
+abbrev pub recovery_reads : Result Recovered Fault → ℕ → List DeviceCall
+recovery_reads (Ok found) pairs = list_reads found.count pairs
+recovery_reads (Err f) pairs = refused_reads f.entry
 
 -- and by what the engine is after the opening
-abbrev pub opened_reads : Mode → View → List DeviceCall
-opened_reads Open v = list_reads v.found v.pairs
-opened_reads (Down x) v = []
-opened_reads (Refused f) v = refused_reads f.entry
+abbrev pub view_reads : Mode → View → List DeviceCall
+view_reads Open v = list_reads v.found v.pairs
+view_reads (Down x) v = []
+view_reads (Refused f) v = refused_reads f.entry
 
 -- Those of an opening: the header's, then mark and record of each entry, up to the first that finds
 -- no call left.
 abbrev pub opening_calls : Rulebook → Medium → List DeviceCall
 opening_calls h m =
-    let v = opening_view h m in take (m.calls_left + 1) (block_read 0 ∷ opened_reads v.mode v)
+    let v = opening_view h m in take (m.calls_left + 1) (block_read 0 ∷ view_reads v.mode v)

@@ -5,7 +5,7 @@ ghost use Rattle.ledger.specs.Rows.{state_question};
 ghost use Rattle.ledger.specs.View.{rulebook_of, holding_question};
 ghost use Rattle.engine.specs.View.{view};
 ghost use Rattle.engine.specs.ClosingSlip.{contents, HasVerdict};
-ghost use Rattle.engine.specs.Asking.{opening_answer, if_answering, presented};
+ghost use Rattle.engine.specs.Asking.{opening_answer, if_answering, present_answer};
 
 use crate::engine::{Engine, Mode};
 use crate::slip::{Slip, Verdict};
@@ -74,7 +74,7 @@ impl<D: Device, R: Book, C: Book> Engine<D, R, C> {
 
     // The verdict on a slip; where the opening was refused, the slip comes back.
     pub fn present(&self, slip: Slip) -> Result<Verdict, (Refusal, Slip)>
-        ensures answer { result ≡ presented (view D.medium self.now) slip }
+        ensures answer { result ≡ present_answer (view D.medium self.now) slip }
         ensures exact { let v = view D.medium self.now in
             IfOk result (λ verdict. HasVerdict (contents slip) v.found v.last_found verdict) }
     {

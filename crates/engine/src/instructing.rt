@@ -4,7 +4,7 @@ ghost use Rattle.journal.specs.Places.{EntryPlaces};
 ghost use Rattle.ledger.specs.View.{rulebook_of};
 ghost use Rattle.device.specs.Traces.{IsTrace};
 ghost use Rattle.engine.specs.View.{view};
-ghost use Rattle.engine.specs.Instructing.{check_answer, TakesInstruction, CutShort};
+ghost use Rattle.engine.specs.Instructing.{check_answer, TakesInstruction, TellsWhenDown};
 ghost use Rattle.engine.specs.Tracing.{instruct_calls};
 
 use crate::engine::{Engine, Mode};
@@ -37,7 +37,7 @@ impl<D: Device, R: Book, C: Book> Engine<D, R, C> {
     pub fn instruct(&mut self, x: &Instruction) -> Result<(), Fault>
         ensures done { TakesInstruction (rulebook_of R.book_kind C.book_kind) x.now
             (view D.medium self.old) (view D.medium self.new) result }
-        ensures cut { CutShort (rulebook_of R.book_kind C.book_kind) x.now
+        ensures cut { TellsWhenDown (rulebook_of R.book_kind C.book_kind) x.now
             (view D.medium self.old) (view D.medium self.new) result }
         ensures places { let v = view D.medium self.old in result ≡ Ok tt
             → EntryPlaces v.entry_count x.now v.medium (view D.medium self.new).medium }

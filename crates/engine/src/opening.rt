@@ -2,12 +2,12 @@
 ghost use Rattle.std.specs.Prelude.{◌≡◌, ℕ, ◌+◌, ◌-◌, ◌*◌, ◌<◌, ◌≤◌, true, false, [], ◌∷◌, take, IfOk, None, Ok};
 ghost use Rattle.rulebook.specs.Rules.{empty};
 ghost use Rattle.ledger.specs.View.{rulebook_of, standing_of};
-ghost use Rattle.engine.specs.Opening.{refused_as, opened_on, opening_view};
-ghost use Rattle.engine.specs.Recovery.{entry_answer, spent_by, leads_to, scan, Scanned};
-ghost use Rattle.engine.specs.Standing.{Opens, Prompt};
+ghost use Rattle.engine.specs.Opening.{refused_view, view_by_header, opening_view};
+ghost use Rattle.engine.specs.Recovery.{entry_answer, calls_spent, standing_after, scan, FollowsScan};
+ghost use Rattle.engine.specs.Standing.{Opens, OpensIfEnoughCalls};
 ghost use Rattle.device.specs.Calls.{SameBlocks};
 ghost use Rattle.device.specs.Traces.{IsTrace};
-ghost use Rattle.engine.specs.Tracing.{turn_reads, found_reads, opened_reads, opening_calls};
+ghost use Rattle.engine.specs.Tracing.{turn_reads, recovery_reads, view_reads, opening_calls};
 ghost use Rattle.journal.specs.Journal.{mark_at, record_at};
 ghost use Rattle.journal.specs.Entries.{after_reads, block_read, read_mark_answer, read_record_answer};
 ghost use Rattle.journal.specs.Headers.{Fits, after_read_header, read_header_answer};
@@ -31,10 +31,10 @@ fn replay_entry<D: Device, R: Book, C: Book>(
     requires within { mark_at entry < (D.medium device.old).size }
     ensures answer { result ≡ entry_answer (rulebook_of R.book_kind C.book_kind)
         (D.medium device.old) (standing_of ledger.old) entry }
-    ensures after { D.medium device.new ≡ after_reads (spent_by result) (D.medium device.old) }
+    ensures after { D.medium device.new ≡ after_reads (calls_spent result) (D.medium device.old) }
     ensures trace { let left = (D.medium device.old).calls_left in
         IsTrace D.makes (take (left + 1) (turn_reads result entry)) device.old device.new }
-    ensures books { standing_of ledger.new ≡ leads_to (standing_of ledger.old) result }
+    ensures books { standing_of ledger.new ≡ standing_after (standing_of ledger.old) result }
 {
     if !read_mark(device, entry)? {
         return Ok(None);
@@ -52,12 +52,12 @@ fn replay<D: Device, R: Book, C: Book>(
 ) -> Result<Recovered, Fault>
     requires few { pairs ≤ MOST_PAIRS }
     requires within { 1 + 2 * pairs ≤ (D.medium device.old).size }
-    ensures scanned { Scanned
+    ensures scanned { FollowsScan
         (scan (rulebook_of R.book_kind C.book_kind) pairs (D.medium device.old) 0 (standing_of ledger.old) None)
         (D.medium device.old) (D.medium device.new) (standing_of ledger.new) result }
     ensures within { IfOk result (λ found. found.count ≤ pairs) }
     ensures trace { let left = (D.medium device.old).calls_left in
-        IsTrace D.makes (take (left + 1) (found_reads result pairs)) device.old device.new }
+        IsTrace D.makes (take (left + 1) (recovery_reads result pairs)) device.old device.new }
 {
     let mut done: u32 = 0;
     let mut last = None;
@@ -81,7 +81,7 @@ impl<D: Device, R: Book, C: Book> Engine<D, R, C> {
         ensures opened { view D.medium result ≡ opening_view (rulebook_of R.book_kind C.book_kind) (D.medium device) }
         ensures found { let v = view D.medium result in
             Opens (rulebook_of R.book_kind C.book_kind) (D.medium device) v v.mode }
-        ensures prompt { Prompt (rulebook_of R.book_kind C.book_kind) (D.medium device) (view D.medium result).mode }
+        ensures prompt { OpensIfEnoughCalls (rulebook_of R.book_kind C.book_kind) (D.medium device) (view D.medium result).mode }
         ensures kept { SameBlocks (D.medium device) (D.medium result.device) }
         ensures trace { let h = rulebook_of R.book_kind C.book_kind in
             IsTrace D.makes (opening_calls h (D.medium device)) device result.device }
@@ -100,9 +100,9 @@ impl<D: Device, R: Book, C: Book> Engine<D, R, C> {
         requires fits { Fits pairs (D.medium device) }
         requires empty { standing_of ledger ≡ empty }
         ensures opened { view D.medium result
-            ≡ opened_on (rulebook_of R.book_kind C.book_kind) (D.medium device) (Ok pairs) }
+            ≡ view_by_header (rulebook_of R.book_kind C.book_kind) (D.medium device) (Ok pairs) }
         ensures trace { let left = (D.medium device).calls_left in let v = view D.medium result in
-            IsTrace D.makes (take (left + 1) (opened_reads v.mode v)) device result.device }
+            IsTrace D.makes (take (left + 1) (view_reads v.mode v)) device result.device }
     {
         let found = match replay(&mut device, &mut ledger, pairs) {
             Ok(found) => found,
@@ -120,7 +120,7 @@ impl<D: Device, R: Book, C: Book> Engine<D, R, C> {
 
     // Clears books and trades again.
     fn refused(device: D, mut ledger: Ledger<R, C>, fault: Fault) -> Self
-        ensures refused { view D.medium result ≡ refused_as fault (D.medium device) }
+        ensures refused { view D.medium result ≡ refused_view fault (D.medium device) }
         ensures device { result.device ≡ device }
     {
         ledger.clear();

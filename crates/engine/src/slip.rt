@@ -1,6 +1,6 @@
 // The closing slip: plain numbers, owed until it is presented or filed.
 ghost use Rattle.std.specs.Prelude.{◌≡◌, true, is_some};
-ghost use Rattle.engine.specs.ClosingSlip.{contents, IsOwed, slip_verdict, HasVerdict, number_of, verdict_place, presented_number, PresentedApart, is_last};
+ghost use Rattle.engine.specs.ClosingSlip.{contents, IsOwed, slip_verdict, HasVerdict, verdict_number, verdict_place, presented_number, PresentedApart, is_last_found};
 
 use instruction::Instruction;
 use refusals::{Place, Refusal};
@@ -28,7 +28,7 @@ pub enum Verdict {
 impl Verdict {
     #[tactic(auto, using(crate::proofs::Verdicts::presented_apart))]
     pub fn number(self) -> u8
-        ensures value { result ≡ number_of self }
+        ensures value { result ≡ verdict_number self }
         ensures apart { PresentedApart }
     {
         self as u8
@@ -116,7 +116,7 @@ impl Slip {
 
 // An instruction is in hand, and it is the last that was found.
 fn is_last(hand: Option<Instruction>, last: Option<Instruction>) -> bool
-    ensures { result ≡ is_last hand last }
+    ensures { result ≡ is_last_found hand last }
 {
     hand.is_some() && hand == last
 }

@@ -3,7 +3,7 @@ use Rattle.ledger.specs.View.{rulebook_of}
 use Rattle.device.specs.Medium.{Medium}
 use Rattle.journal.proofs.ReadAnswers.{header-spends, header-unnamed}
 use Rattle.engine.specs.View.{view}
-use Rattle.engine.specs.Opening.{refused_as}
+use Rattle.engine.specs.Opening.{refused_view}
 use Rattle.engine.proofs.Opens.{headed}
 use Rattle.engine.proofs.Readings.{header-read, header-then, opening-traced}
 use Rattle.engine.proofs.Standings.{opens-well, opens-keeping, opens-promptly}
@@ -57,6 +57,6 @@ pub returns-in-Err-clause-trace : goal.returns-in-Err-clause-trace
 returns-in-Err-clause-trace g c =
     let m = g.D.Device.medium c.args.device in
     let e = c.in-Err.ensures in
-    opening-traced g.D.Device.makes (rulebook_of g.R.Book.book_kind g.C.Book.book_kind) m (refused_as c.in-Err.fault (g.D.Device.medium c.read_header.new.device)) _ _
+    opening-traced g.D.Device.makes (rulebook_of g.R.Book.book_kind g.C.Book.book_kind) m (refused_view c.in-Err.fault (g.D.Device.medium c.read_header.new.device)) _ _
     (sym c.refused.ensures.refused ∙ returns-in-Err-clause-opened g c)
     (rw c.refused.ensures.device (header-read g.D.Device.makes m.calls_left c.in-Err.fault (header-unnamed _ _ m c.in-Err.fault e.answer) e.trace))
