@@ -1,6 +1,6 @@
 -- What a recovery of a whole journal finds: its list, and where that leads.
-use Rattle.std.proofs.Common.{◌≡◌, ℕ, zero, suc, ◌+◌, ◌-◌, ◌*◌, ◌^◌, ◌<◌, ◌≤◌, Bool, true, false, eqb, List, [], ◌∷◌, ◌++◌, length, get_or, take, drop, Some, None, Ok, Err, Option, Result, sym, refl, ap, ◌∙◌, subst, inl, inr, arith}
-use Rattle.std.proofs.lemmas.Bool.{eq-eqb, ne_eqb, cases_lt, cases_eq, cond-true, cond-false, false_from_ne_true}
+use Rattle.std.proofs.Common.{◌≡◌, ℕ, zero, suc, ◌+◌, ◌-◌, ◌*◌, ◌<◌, ◌≤◌, Bool, true, false, eqb, List, [], ◌∷◌, ◌++◌, length, get_or, take, drop, Some, None, Ok, Err, Option, Result, sym, refl, ap, ◌∙◌, subst, inl, inr, arith}
+use Rattle.std.proofs.lemmas.Bool.{eq-eqb, ne_eqb, cases_lt, cases_eq, cond-true, cond-false}
 use Rattle.std.proofs.lemmas.List.{take_all, drop_all, take_more, drop_more}
 use Rattle.std.proofs.lemmas.Option.{same_Some, none-some}
 use Rattle.refusals.specs.declared.Refusal.{Refusal}
@@ -14,10 +14,9 @@ use Rattle.device.specs.Medium.{Medium, IsBounded}
 use Rattle.journal.specs.Journal.{record_at, mark_at, MarkIsGood}
 use Rattle.journal.proofs.Survives.{Found}
 use Rattle.journal.specs.Blocks.{mark_bytes, record_in, read_in, no_instruction}
-use Rattle.journal.proofs.Trips.{mark-is, mark-back}
 use Rattle.journal.specs.Entries.{as_entry_fault, is_good, record_block_answer, with_calls_left}
 use Rattle.journal.proofs.ReadAnswers.{mark-bad, mark-good}
-use Rattle.engine.specs.declared.engine.Recovered.{Recovered}
+use Rattle.engine.specs.declared.engine.FoundEntries.{FoundEntries}
 use Rattle.engine.specs.Recovery.{rules_answer, answer_by_record, answer_by_mark, entry_answer, scan_turn, Scan, scan}
 use Rattle.engine.specs.Opening.{last_of}
 use Rattle.engine.specs.Lasting.{blocks_for_books}
@@ -48,7 +47,7 @@ said-so (Err f) x e = absurd (none-some x e)
 -- where the calls are enough, and if it ends well this is what it found; else it wanted calls.
 pub record Ends (z : Scan) (n calls : ℕ) (ws : List Instruction) (t : Standing) : Type 0 where
   pub enough : 2 * n ≤ calls → z.outcome ≡ Ok (record { count = length ws; last = last_of ws })
-  pub only : (found : Recovered) → z.outcome ≡ Ok found → (found ≡ record { count = length ws; last = last_of ws }) × (z.standing ≡ t)
+  pub only : (found : FoundEntries) → z.outcome ≡ Ok found → (found ≡ record { count = length ws; last = last_of ws }) × (z.standing ≡ t)
   pub fewer : z.calls_left ≤ calls
   pub short : (f : Fault) → z.outcome ≡ Err f → number_of f.refusal ≡ 13
 
@@ -56,7 +55,7 @@ module _ {ws : List Instruction} {t : Standing} where
   ends-found : (k n calls left : ℕ) (s : Standing) (last : Option Instruction) → k ≡ length ws → last ≡ last_of ws → t ≡ s → left ≤ calls
       → Ends (record { outcome = Ok (record { count = k; last = last }); calls_left = left; standing = s }) n calls ws t
   ends-found k n calls left s last ek el es l =
-      let same : ◌≡◌ {A = Recovered} (record { count = k; last = last }) (record { count = length ws; last = last_of ws }) = λ i. record { count = ek i; last = el i } in
+      let same : ◌≡◌ {A = FoundEntries} (record { count = k; last = last }) (record { count = length ws; last = last_of ws }) = λ i. record { count = ek i; last = el i } in
       record {
         enough = λ h. ap Ok same;
         only = λ found e. (let is : record { count = k; last = last } ≡ found = cc in sym is ∙ same, sym es);

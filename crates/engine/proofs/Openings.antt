@@ -18,7 +18,7 @@ use Rattle.journal.proofs.Survives.{Found, looking, found-one, idle-found}
 use Rattle.journal.specs.Entries.{after_reads, is_good, with_calls_left}
 use Rattle.journal.specs.Headers.{after_read_header, header_block_answer, header_pairs, read_header_answer}
 use Rattle.journal.proofs.ReadAnswers.{mark-good, mark-tested}
-use Rattle.engine.specs.declared.engine.Recovered.{Recovered}
+use Rattle.engine.specs.declared.engine.FoundEntries.{FoundEntries}
 use Rattle.engine.specs.Recovery.{Scan, scan}
 use Rattle.engine.specs.View.{View}
 use Rattle.engine.specs.Opening.{outcome_view, scan_view, refused_view, view_by_header, opening_view, header_for_books}
@@ -99,7 +99,7 @@ module _ (h : Rulebook) (pairs : ℕ) where
   -- a recovery of that list, by its answer
   scan-opens : (m : Medium) (xs : List Instruction) (hand : Option Instruction) (ws : List Instruction) (s : Standing) (z : Scan) → pairs ≤ 32767 → 0 < m.calls_left → Journal L m xs hand
       → WithOrWithout xs hand ws → Journal L m ws None → Runs h ws s → Ends z pairs (m.calls_left - 1) ws s
-      → (r : Result Recovered Fault) → z.outcome ≡ r → OpenedOn h pairs m xs hand (outcome_view r pairs (with_calls_left z.calls_left m) z.standing)
+      → (r : Result FoundEntries Fault) → z.outcome ≡ r → OpenedOn h pairs m xs hand (outcome_view r pairs (with_calls_left z.calls_left m) z.standing)
   scan-opens m xs hand ws s z few l j which kept runs ends (Ok found) e =
       let o = ends.only found e in
       let fewer : z.calls_left ≤ m.calls_left = omega (arith, ends.fewer) in
@@ -114,9 +114,9 @@ module _ (h : Rulebook) (pairs : ℕ) where
             journal = looking L m (with_calls_left z.calls_left m) ws None kept (fewer-calls m z.calls_left) fewer;
             runs = subst (λ t. Runs h ws t) (sym o.1) runs;
             room = refl;
-            entry_count = ap (λ (f : Recovered). f.count) o.0;
-            found = ap (λ (f : Recovered). f.count) o.0;
-            last_found = ap (λ (f : Recovered). f.last) o.0;
+            entry_count = ap (λ (f : FoundEntries). f.count) o.0;
+            found = ap (λ (f : FoundEntries). f.count) o.0;
+            last_found = ap (λ (f : FoundEntries). f.last) o.0;
           },
         );
       }

@@ -5,12 +5,12 @@ use Rattle.rulebook.specs.Terms.{securities, cash}
 use Rattle.rulebook.specs.Rules.{Rulebook, Standing}
 use Rattle.device.specs.Medium.{Medium}
 use Rattle.journal.specs.Headers.{after_read_header, read_header_answer}
-use Rattle.engine.specs.declared.engine.Recovered.{Recovered}
+use Rattle.engine.specs.declared.engine.FoundEntries.{FoundEntries}
 use Rattle.engine.specs.Recovery.{Scan, FollowsScan}
 use Rattle.engine.specs.Opening.{outcome_view, scan_view, view_by_header, opening_view}
 
 -- the view of what a recovery answered, with the device and the standing after it
-pub scanned : (pairs : ℕ) {m m' : Medium} {s : Standing} {z : Scan} {r : Result Recovered Fault} → FollowsScan z m m' s r → outcome_view r pairs m' s ≡ scan_view pairs m z
+pub scanned : (pairs : ℕ) {m m' : Medium} {s : Standing} {z : Scan} {r : Result FoundEntries Fault} → FollowsScan z m m' s r → outcome_view r pairs m' s ≡ scan_view pairs m z
 scanned pairs e = rw (e.answer, e.device, e.books) refl
 
 -- what an opening gives, from the kinds that the books answer

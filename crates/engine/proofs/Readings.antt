@@ -1,8 +1,7 @@
 -- The reads of an opening, in order.
-use Rattle.std.proofs.Common.{◌≡◌, ℕ, zero, suc, ◌+◌, ◌-◌, ◌*◌, ◌<◌, ◌≤◌, ◌&&◌, Bool, true, false, cond, eqb, ltb, leb, List, [], ◌∷◌, ◌++◌, length, take, Some, None, Ok, Err, Option, Result, sym, refl, ap, ◌∙◌, subst, inl, inr, add-one, length-append, append-nil, arith}
-use Rattle.std.proofs.lemmas.Bool.{cond-true, cond-false, eqb-true, eqb-false, lt-ltb, le-ltb, cases_Bool}
+use Rattle.std.proofs.Common.{◌≡◌, ℕ, zero, suc, ◌+◌, ◌-◌, ◌*◌, ◌<◌, ◌≤◌, Bool, true, false, cond, ltb, List, [], ◌∷◌, ◌++◌, length, take, Some, None, Ok, Err, Option, Result, sym, refl, ap, ◌∙◌, subst, add-one, length-append, append-nil, arith}
+use Rattle.std.proofs.lemmas.Bool.{cond-true, cond-false, lt-ltb, le-ltb}
 use Rattle.std.proofs.lemmas.List.{take_all}
-use Rattle.refusals.specs.declared.Refusal.{Refusal}
 use Rattle.refusals.specs.declared.Fault.{Fault}
 use Rattle.instruction.specs.declared.Instruction.{Instruction}
 use Rattle.rulebook.specs.Rules.{Rulebook, Standing, fault_answer}
@@ -10,12 +9,8 @@ use Rattle.device.specs.Medium.{Medium}
 use Rattle.device.specs.Traces.{DeviceCall, reading, writing, syncing, restarting, IsTrace, only_reads, ReadOnly}
 use Rattle.device.proofs.Traces.{traced-append, traced-on, only_reads-append}
 use Rattle.journal.specs.Journal.{record_at, mark_at}
-use Rattle.journal.specs.Blocks.{record_in}
 use Rattle.engine.specs.Recovery.{rules_answer, answer_by_record, answer_by_mark, entry_answer}
-use Rattle.journal.specs.declared.header.Header.{Header}
-use Rattle.journal.specs.Blocks.{header_in}
-use Rattle.journal.specs.Entries.{after_reads, as_entry_fault, block_read, is_good, read_mark_answer, read_record_answer, record_block_answer}
-use Rattle.journal.specs.Headers.{after_read_header, fitting_pairs, header_block_answer, header_pairs, read_header_answer}
+use Rattle.journal.specs.Entries.{after_reads, block_read, read_mark_answer, read_record_answer}
 use Rattle.journal.proofs.ReadAnswers.{mark-refused, mark-spends, record-names, record-spends}
 use Rattle.engine.specs.declared.engine.Mode.{Mode}
 use Rattle.engine.specs.declared.engine.Mode.TheVariants.{Open, Down, Refused}

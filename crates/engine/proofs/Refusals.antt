@@ -18,7 +18,7 @@ use Rattle.journal.specs.Entries.{after_reads, as_entry_fault, is_good, read_rec
 use Rattle.journal.specs.Headers.{fitting_pairs, header_block_answer, header_pairs, read_header_answer}
 use Rattle.journal.proofs.ReadAnswers.{mark-tested}
 use Rattle.engine.specs.Recovery.{rules_answer, answer_by_record, answer_by_mark, entry_answer}
-use Rattle.engine.specs.Standing.{HasGoodMark, IsFault, RefusesHeader, no-block, no-header-call, unreadable-header, no-header, other-kinds, too-few-blocks, IsRuleFault, RefusesEntry, no-mark-call, no-record-call, unreadable-record, malformed, rules-refuse}
+use Rattle.engine.specs.Findings.{HasGoodMark, IsFault, RefusesHeader, no-block, no-header-call, unreadable-header, no-header, other-kinds, too-few-blocks, IsRuleFault, RefusesEntry, no-mark-call, no-record-call, unreadable-record, malformed, rules-refuse}
 
 pub same-fault : {X : Type 0} (g f : Fault) → ◌≡◌ {A = Result X Fault} (Err g) (Err f) → g ≡ f
 same-fault g f e = cc

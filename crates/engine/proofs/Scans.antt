@@ -5,7 +5,7 @@ use Rattle.instruction.specs.declared.Instruction.{Instruction}
 use Rattle.rulebook.specs.Rules.{Rulebook, Standing, effect}
 use Rattle.device.specs.Medium.{Medium}
 use Rattle.journal.specs.Entries.{after_reads, with_calls_left}
-use Rattle.engine.specs.declared.engine.Recovered.{Recovered}
+use Rattle.engine.specs.declared.engine.FoundEntries.{FoundEntries}
 use Rattle.engine.specs.Recovery.{entry_answer, calls_spent, standing_after, scan_turn, scan_end, Scan, scan, FollowsScan}
 
 scan-none : (h : Rulebook) (m : Medium) (k : ℕ) (s : Standing) (last : Option Instruction) → scan h 0 m k s last ≡ scan_end m k s last
@@ -18,7 +18,7 @@ unfolding scan
 scan-more h n m k s last = rw (add-one n) refl
 
 -- the recovery of m₀ from s₀ on stands before entry k, with this found, at the device m and the standing s
-pub record Turn (h : Rulebook) (pairs : ℕ) (m₀ : Medium) (s₀ : Standing) (k : ℕ) (found : Recovered) (m : Medium) (s : Standing) : Type 0 where
+pub record Turn (h : Rulebook) (pairs : ℕ) (m₀ : Medium) (s₀ : Standing) (k : ℕ) (found : FoundEntries) (m : Medium) (s : Standing) : Type 0 where
   pub within : k ≤ pairs
   pub counted : found.count ≡ k
   pub same : scan h pairs m₀ 0 s₀ None ≡ scan h (pairs - k) m k s found.last
@@ -33,12 +33,12 @@ pub record EntryRead (h : Rulebook) (k : ℕ) (m : Medium) (s : Standing) (r : R
 pub entry-read : {h : Rulebook} {k : ℕ} {m : Medium} {s : Standing} {r : Result (Option Instruction) Fault} {m' : Medium} {s' : Standing} → r ≡ entry_answer h m s k → m' ≡ after_reads (calls_spent r) m → s' ≡ standing_after s r → EntryRead h k m s r m' s'
 entry-read a e b = record { answer = a; after = e; books = b }
 
-module _ {h : Rulebook} {pairs : ℕ} {m₀ : Medium} {s₀ : Standing} {k : ℕ} {found : Recovered} {m : Medium} {s : Standing} (t : Turn h pairs m₀ s₀ k found m s) where
+module _ {h : Rulebook} {pairs : ℕ} {m₀ : Medium} {s₀ : Standing} {k : ℕ} {found : FoundEntries} {m : Medium} {s : Standing} (t : Turn h pairs m₀ s₀ k found m s) where
   -- what comes after entry k
   abbrev onward : Instruction → Scan
   onward x = scan h (pairs - (k + 1)) (after_reads 2 m) (k + 1) (effect s x) (Some x)
 
-  as-scanned : {r : Result Recovered Fault} {m' : Medium} {s' : Standing} (n : ℕ) → scan h pairs m₀ 0 s₀ None ≡ record { outcome = r; calls_left = n; standing = s' } → m' ≡ with_calls_left n m
+  as-scanned : {r : Result FoundEntries Fault} {m' : Medium} {s' : Standing} (n : ℕ) → scan h pairs m₀ 0 s₀ None ≡ record { outcome = r; calls_left = n; standing = s' } → m' ≡ with_calls_left n m
       → FollowsScan (scan h pairs m₀ 0 s₀ None) m₀ m' s' r
   as-scanned n e em = rw e (record { answer = refl; device = em ∙ ap (with_calls_left n) t.medium; books = refl })
 

@@ -20,13 +20,13 @@ use Rattle.journal.proofs.Trips.{record-read, record-back, read-header}
 use Rattle.journal.specs.Entries.{after_reads, as_entry_fault, is_good, read_mark_answer, read_record_answer, record_block_answer, with_calls_left}
 use Rattle.journal.specs.Headers.{Fits, after_read_header, header_block_answer, header_pairs, read_header_answer}
 use Rattle.journal.proofs.ReadAnswers.{header-spends, mark-good, mark-tested}
-use Rattle.engine.specs.declared.engine.Recovered.{Recovered}
+use Rattle.engine.specs.declared.engine.FoundEntries.{FoundEntries}
 use Rattle.engine.specs.Recovery.{rules_answer, answer_by_record, answer_by_mark, entry_answer, scan_turn, Scan, scan}
 use Rattle.engine.specs.declared.engine.Mode.TheVariants.{Open}
 use Rattle.engine.specs.View.{View}
 use Rattle.engine.specs.Opening.{outcome_view, view_by_header, opening_view, header_for_books, last_of}
 use Rattle.engine.specs.Lasting.{record_contents, entry_instruction, standing_list, blocks_for_books}
-use Rattle.engine.specs.Standing.{EntriesStand, FindsEntries, RefusesEntry, RefusesList, Opens, OpensIfEnoughCalls}
+use Rattle.engine.specs.Findings.{EntriesStand, FindsEntries, RefusesEntry, RefusesList, Opens, OpensIfEnoughCalls}
 use Rattle.engine.proofs.Readings.{entry-two}
 use Rattle.engine.proofs.Refusals.{same-fault, header-refuses, entry-refuses}
 use Rattle.engine.proofs.Finds.{last-more, calls-find}
@@ -191,13 +191,13 @@ module _ (h : Rulebook) (m : Medium) (b : IsBounded m) where
         both_ways (is_good k (m.holds (mark_at k))) (tested on false (marked-ends on (read_mark_answer on k) e)) (mark-good m k l is)
 
   -- a recovery that ended well at s has read this
-  record Reads (pairs : ℕ) (s : Standing) (found : Recovered) : Type 0 where
+  record Reads (pairs : ℕ) (s : Standing) (found : FoundEntries) : Type 0 where
     entries : Prefix found.count s found.last
     within : found.count ≤ pairs
     stop : found.count < pairs → m.holds (mark_at found.count) ≡ Some (mark_bytes found.count) → ⊥
 
-  ends-so : (pairs k : ℕ) (s : Standing) (last : Option Instruction) (found : Recovered) → Prefix k s last → k ≤ pairs → (k < pairs → m.holds (mark_at k) ≡ Some (mark_bytes k) → ⊥)
-      → ◌≡◌ {A = Result Recovered Fault} (Ok (record { count = k; last = last })) (Ok found) → Reads pairs s found
+  ends-so : (pairs k : ℕ) (s : Standing) (last : Option Instruction) (found : FoundEntries) → Prefix k s last → k ≤ pairs → (k < pairs → m.holds (mark_at k) ≡ Some (mark_bytes k) → ⊥)
+      → ◌≡◌ {A = Result FoundEntries Fault} (Ok (record { count = k; last = last })) (Ok found) → Reads pairs s found
   ends-so pairs k s last found p l stop e =
       let is : record { count = k; last = last } ≡ found = cc in
       subst (λ f. Reads pairs s f) is (record { entries = p; within = l; stop = stop })
@@ -207,7 +207,7 @@ module _ (h : Rulebook) (m : Medium) (b : IsBounded m) where
     onward n k calls s x = scan h n (with_calls_left (calls - 2) m) (k + 1) (effect s x) (Some x)
 
     -- by what entry k answers, where what comes after it is known
-    turn-reads : (n k calls : ℕ) (s : Standing) (last : Option Instruction) (found : Recovered) → k < pairs → Prefix k s last
+    turn-reads : (n k calls : ℕ) (s : Standing) (last : Option Instruction) (found : FoundEntries) → k < pairs → Prefix k s last
         → ((x : Instruction) → ReadsEntry k s x → (onward n k calls s x).outcome ≡ Ok found → Reads pairs (onward n k calls s x).standing found)
         → (r : Result (Option Instruction) Fault) → entry_answer h (with_calls_left calls m) s k ≡ r
         → (scan_turn r (with_calls_left calls m) k s last (onward n k calls s)).outcome ≡ Ok found → Reads pairs (scan_turn r (with_calls_left calls m) k s last (onward n k calls s)).standing found
@@ -215,7 +215,7 @@ module _ (h : Rulebook) (m : Medium) (b : IsBounded m) where
     turn-reads n k calls s last found l p after (Ok (Some x)) is e = after x (entry-read k s calls x is) e
     turn-reads n k calls s last found l p after (Err f) is e = absurd cc
 
-    scan-reads : (n k calls : ℕ) (s : Standing) (last : Option Instruction) (found : Recovered) → n + k ≡ pairs → Prefix k s last
+    scan-reads : (n k calls : ℕ) (s : Standing) (last : Option Instruction) (found : FoundEntries) → n + k ≡ pairs → Prefix k s last
         → (scan h n (with_calls_left calls m) k s last).outcome ≡ Ok found → Reads pairs (scan h n (with_calls_left calls m) k s last).standing found
     unfolding scan
     scan-reads zero k calls s last found l p e = ends-so pairs k s last found p (omega arith) (λ r. absurd (omega arith)) e
@@ -250,7 +250,7 @@ module _ (h : Rulebook) (m : Medium) (b : IsBounded m) where
       below = l;
       standing = s;
       before = stand pairs k s last w (omega arith) p;
-      refused = subst (λ x. RefusesEntry h m k s x) (same-fault {X = Recovered} g f e) (entry-refuses h m b g k s (omega (arith, w.fits.few)) calls spent is);
+      refused = subst (λ x. RefusesEntry h m k s x) (same-fault {X = FoundEntries} g f e) (entry-refuses h m b g k s (omega (arith, w.fits.few)) calls spent is);
     }
 
     scan-refuses : (n k calls : ℕ) (s : Standing) (last : Option Instruction) (f : Fault) → n + k ≡ pairs → m.calls_left ≡ calls + (1 + 2 * k) → Prefix k s last
@@ -263,7 +263,7 @@ module _ (h : Rulebook) (m : Medium) (b : IsBounded m) where
         (entry_answer h (with_calls_left calls m) s k) refl e
 
   -- by what the recovery answers
-  scanned-well : (pairs : ℕ) (z : Scan) (r : Result Recovered Fault) → Heads h m pairs → ((found : Recovered) → r ≡ Ok found → Reads pairs z.standing found)
+  scanned-well : (pairs : ℕ) (z : Scan) (r : Result FoundEntries Fault) → Heads h m pairs → ((found : FoundEntries) → r ≡ Ok found → Reads pairs z.standing found)
       → ((f : Fault) → r ≡ Err f → RefusesList h m f)
       → Opens h m (outcome_view r pairs (with_calls_left z.calls_left m) z.standing) (outcome_view r pairs (with_calls_left z.calls_left m) z.standing).mode
   scanned-well pairs z (Ok found) w reads refuses =
@@ -347,7 +347,7 @@ module _ (h : Rulebook) (m : Medium) (w : View) (f : FindsEntries h m w) where
 
 -- an opening only reads
 
-scanned-kept : (m : Medium) (pairs n : ℕ) (s : Standing) (r : Result Recovered Fault) → SameBlocks m (outcome_view r pairs (with_calls_left n m) s).medium
+scanned-kept : (m : Medium) (pairs n : ℕ) (s : Standing) (r : Result FoundEntries Fault) → SameBlocks m (outcome_view r pairs (with_calls_left n m) s).medium
 scanned-kept m pairs n s (Ok f) = fewer-calls m n
 scanned-kept m pairs n s (Err f) = fewer-calls m n
 

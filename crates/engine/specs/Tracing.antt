@@ -1,16 +1,14 @@
--- Which calls an engine makes to its device. Assumes nothing.
-use Rattle.std.specs.Prelude.{ℕ, zero, suc, ◌+◌, cond, List, [], ◌∷◌, ◌++◌, take, Some, None, Ok, Err, Option, Result, nat_lt}
+-- The calls that an engine makes to its device.
+use Rattle.std.specs.Prelude.{ℕ, zero, suc, if◌then◌else◌, ◌+◌, List, [], ◌∷◌, ◌++◌, take, Some, None, Ok, Err, Option, Result, nat_lt}
 use Rattle.refusals.specs.declared.Fault.{Fault}
-use Rattle.instruction.specs.declared.Instruction.{Instruction}
 use Rattle.refusals.specs.Answers.{if_ok}
+use Rattle.instruction.specs.declared.Instruction.{Instruction}
 use Rattle.rulebook.specs.Rules.{Rulebook}
-use Rattle.device.specs.declared.TheConstants.{BLOCK_SIZE}
 use Rattle.device.specs.Medium.{Medium}
-use Rattle.device.specs.Traces.{DeviceCall, reading, writing, syncing}
+use Rattle.device.specs.Traces.{DeviceCall}
 use Rattle.journal.specs.Journal.{record_at, mark_at}
-use Rattle.journal.specs.Blocks.{record_bytes, mark_bytes}
 use Rattle.journal.specs.Entries.{block_read, write_entry_calls}
-use Rattle.engine.specs.declared.engine.Recovered.{Recovered}
+use Rattle.engine.specs.declared.engine.FoundEntries.{FoundEntries}
 use Rattle.engine.specs.declared.engine.Mode.{Mode}
 use Rattle.engine.specs.declared.engine.Mode.TheVariants.{Open, Down, Refused}
 use Rattle.engine.specs.View.{View}
@@ -19,14 +17,15 @@ use Rattle.engine.specs.Instructing.{check_answer}
 
 -- those of an instruction: none where a check refuses it
 abbrev pub instruct_calls : Rulebook → Instruction → View → List DeviceCall
-instruct_calls h x v = if_ok (check_answer h x v) (write_entry_calls v.entry_count x v.medium.calls_left) []
+instruct_calls h x v =
+    if_ok (check_answer h x v) (write_entry_calls v.entry_count x v.medium.calls_left) []
 
 -- the mark and the record of each of the first n entries, one entry after another
 unfoldable pub entry_reads : ℕ → List DeviceCall
 entry_reads zero = []
 entry_reads (suc n) = entry_reads n ++ (block_read (mark_at n) ∷ block_read (record_at n) ∷ [])
 
--- of one entry: its mark, and its record unless the mark ends the list
+-- of entry k: its mark, and its record unless the mark ends the list
 abbrev pub turn_reads : Result (Option Instruction) Fault → ℕ → List DeviceCall
 turn_reads (Ok None) k = block_read (mark_at k) ∷ []
 turn_reads (Ok (Some x)) k = block_read (mark_at k) ∷ block_read (record_at k) ∷ []
@@ -35,7 +34,7 @@ turn_reads (Err f) k = block_read (mark_at k) ∷ block_read (record_at k) ∷ [
 -- of a list that ended well: its entries, and the mark that is not good where there is another pair
 abbrev pub list_reads : ℕ → ℕ → List DeviceCall
 list_reads found pairs =
-    entry_reads found ++ cond (nat_lt found pairs) (block_read (mark_at found) ∷ []) []
+    entry_reads found ++ (if nat_lt found pairs then block_read (mark_at found) ∷ [] else [])
 
 -- of one that was refused: the entries up to the one that the fault names; none where it names none,
 -- since then the header was refused
@@ -43,8 +42,8 @@ abbrev pub refused_reads : Option ℕ → List DeviceCall
 refused_reads None = []
 refused_reads (Some k) = entry_reads (k + 1)
 
--- what is read after the header, by what was found
-abbrev pub recovery_reads : Result Recovered Fault → ℕ → List DeviceCall
+-- what is read after the header, by what the recovery answered
+abbrev pub recovery_reads : Result FoundEntries Fault → ℕ → List DeviceCall
 recovery_reads (Ok found) pairs = list_reads found.count pairs
 recovery_reads (Err f) pairs = refused_reads f.entry
 

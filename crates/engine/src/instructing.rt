@@ -19,7 +19,7 @@ impl<D: Device, R: Book, C: Book> Engine<D, R, C> {
     // The checks of an instruction, with nothing written.
     fn check(&self, x: &Instruction) -> Result<(), Fault>
         ensures answer { result ≡ check_answer (rulebook_of R.book_kind C.book_kind) x.now (view D.medium self.now) }
-        ensures room { IfOk result (λ _. self.now.count < self.now.pairs) }
+        ensures room { IfOk result (λ _. self.now.entry_count < self.now.pairs) }
     {
         match self.mode {
             Mode::Refused(_) => return Err(fault_about(x, Refusal::OpeningRefused.into())),
@@ -27,7 +27,7 @@ impl<D: Device, R: Book, C: Book> Engine<D, R, C> {
             Mode::Open => {}
         }
         self.ledger.answer_to(x)?;
-        if self.count >= self.pairs {
+        if self.entry_count >= self.pairs {
             return Err(fault_about(x, Refusal::JournalFull.into()));
         }
         Ok(())
@@ -45,13 +45,13 @@ impl<D: Device, R: Book, C: Book> Engine<D, R, C> {
             IsTrace D.makes (instruct_calls (rulebook_of R.book_kind C.book_kind) x.now v) self.old.device self.new.device }
     {
         self.check(x)?;
-        if let Err(fault) = write_entry(&mut self.device, self.count, x) {
+        if let Err(fault) = write_entry(&mut self.device, self.entry_count, x) {
             self.mode = Mode::Down(*x);
-            return Err(fault_about(x, fault.in_entry(self.count)));
+            return Err(fault_about(x, fault.in_entry(self.entry_count)));
         }
         // Accepted, as the checks found it.
         let _ = self.ledger.instruct(x);
-        self.count += 1;
+        self.entry_count += 1;
         Ok(())
     }
 }

@@ -4,7 +4,7 @@ ghost use Rattle.rulebook.specs.Rules.{empty};
 ghost use Rattle.ledger.specs.View.{rulebook_of, standing_of};
 ghost use Rattle.engine.specs.Opening.{refused_view, view_by_header, opening_view};
 ghost use Rattle.engine.specs.Recovery.{entry_answer, calls_spent, standing_after, scan, FollowsScan};
-ghost use Rattle.engine.specs.Standing.{Opens, OpensIfEnoughCalls};
+ghost use Rattle.engine.specs.Findings.{Opens, OpensIfEnoughCalls};
 ghost use Rattle.device.specs.Calls.{SameBlocks};
 ghost use Rattle.device.specs.Traces.{IsTrace};
 ghost use Rattle.engine.specs.Tracing.{turn_reads, recovery_reads, view_reads, opening_calls};
@@ -13,7 +13,7 @@ ghost use Rattle.journal.specs.Entries.{after_reads, block_read, read_mark_answe
 ghost use Rattle.journal.specs.Headers.{Fits, after_read_header, read_header_answer};
 ghost use Rattle.engine.specs.View.{view};
 
-use crate::engine::{Engine, Mode, Recovered};
+use crate::engine::{Engine, Mode, FoundEntries};
 use book::Book;
 use device::Device;
 use instruction::Instruction;
@@ -49,7 +49,7 @@ fn replay<D: Device, R: Book, C: Book>(
     device: &mut D,
     ledger: &mut Ledger<R, C>,
     pairs: u32,
-) -> Result<Recovered, Fault>
+) -> Result<FoundEntries, Fault>
     requires few { pairs ≤ MOST_PAIRS }
     requires within { 1 + 2 * pairs ≤ (D.medium device.old).size }
     ensures scanned { FollowsScan
@@ -72,7 +72,7 @@ fn replay<D: Device, R: Book, C: Book>(
         last = Some(x);
         done += 1;
     };
-    Ok(Recovered { count, last })
+    Ok(FoundEntries { count, last })
 }
 
 impl<D: Device, R: Book, C: Book> Engine<D, R, C> {
@@ -90,13 +90,13 @@ impl<D: Device, R: Book, C: Book> Engine<D, R, C> {
         let cash_kind = cash.kind();
         let ledger = Ledger::new(register, cash);
         match read_header(&mut device, register_kind, cash_kind) {
-            Ok(pairs) => Engine::recovered(device, ledger, pairs),
-            Err(fault) => Engine::refused(device, ledger, fault),
+            Ok(pairs) => Engine::from_entries(device, ledger, pairs),
+            Err(fault) => Engine::from_refusal(device, ledger, fault),
         }
     }
 
     // The engine of a journal with so many pairs.
-    fn recovered(mut device: D, mut ledger: Ledger<R, C>, pairs: u32) -> Self
+    fn from_entries(mut device: D, mut ledger: Ledger<R, C>, pairs: u32) -> Self
         requires fits { Fits pairs (D.medium device) }
         requires empty { standing_of ledger ≡ empty }
         ensures opened { view D.medium result
@@ -106,7 +106,7 @@ impl<D: Device, R: Book, C: Book> Engine<D, R, C> {
     {
         let found = match replay(&mut device, &mut ledger, pairs) {
             Ok(found) => found,
-            Err(fault) => return Engine::refused(device, ledger, fault),
+            Err(fault) => return Engine::from_refusal(device, ledger, fault),
         };
         Engine {
             device,
@@ -114,12 +114,12 @@ impl<D: Device, R: Book, C: Book> Engine<D, R, C> {
             mode: Mode::Open,
             pairs,
             found,
-            count: found.count,
+            entry_count: found.count,
         }
     }
 
     // Clears books and trades again.
-    fn refused(device: D, mut ledger: Ledger<R, C>, fault: Fault) -> Self
+    fn from_refusal(device: D, mut ledger: Ledger<R, C>, fault: Fault) -> Self
         ensures refused { view D.medium result ≡ refused_view fault (D.medium device) }
         ensures device { result.device ≡ device }
     {
@@ -129,8 +129,8 @@ impl<D: Device, R: Book, C: Book> Engine<D, R, C> {
             ledger,
             mode: Mode::Refused(fault),
             pairs: 0,
-            found: Recovered::default(),
-            count: 0,
+            found: FoundEntries::default(),
+            entry_count: 0,
         }
     }
 }

@@ -71,7 +71,7 @@ impl Drop for Slip {
 }
 
 impl Slip {
-    pub(crate) fn owed(holds: Option<Contents>) -> Slip
+    pub(crate) fn new(holds: Option<Contents>) -> Slip
         ensures holds { contents result ≡ holds }
         ensures owed { IsOwed result }
     {
@@ -97,7 +97,7 @@ impl Slip {
     }
 
     // The verdict where so many entries were found, with this one the last.
-    pub(crate) fn judge(self, found: u32, last: Option<Instruction>) -> Verdict
+    pub(crate) fn verdict(self, found: u32, last: Option<Instruction>) -> Verdict
         ensures value { result ≡ slip_verdict (contents self) found last }
         ensures exact { HasVerdict (contents self) found last result }
     {
@@ -107,7 +107,7 @@ impl Slip {
         if found == holds.entries {
             return Verdict::Same;
         }
-        if holds.entries.checked_add(1) == Some(found) && is_last(holds.hand, last) {
+        if holds.entries.checked_add(1) == Some(found) && is_last_found(holds.hand, last) {
             return Verdict::Stands;
         }
         Verdict::Differs
@@ -115,7 +115,7 @@ impl Slip {
 }
 
 // An instruction is in hand, and it is the last that was found.
-fn is_last(hand: Option<Instruction>, last: Option<Instruction>) -> bool
+fn is_last_found(hand: Option<Instruction>, last: Option<Instruction>) -> bool
     ensures { result ≡ is_last_found hand last }
 {
     hand.is_some() && hand == last

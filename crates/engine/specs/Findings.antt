@@ -1,5 +1,5 @@
 -- What an opening finds and why it is refused, on a device that may hold anything.
-use Rattle.std.specs.Prelude.{◌≡◌, ℕ, ◌+◌, ◌*◌, ◌<◌, ◌≤◌, ◌⊎◌, cond, ◌&&◌, List, Some, None, Err, Option, ◌≢◌, nat_le}
+use Rattle.std.specs.Prelude.{◌≡◌, ℕ, ◌+◌, ◌*◌, ◌<◌, ◌≤◌, ◌⊎◌, List, Some, None, Err, Option, ◌≢◌}
 use Rattle.refusals.specs.Numbers.{number_of}
 use Rattle.refusals.specs.declared.Refusal.{Refusal}
 use Rattle.refusals.specs.declared.Fault.{Fault}
@@ -17,6 +17,7 @@ use Rattle.engine.specs.declared.engine.Mode.{Mode}
 use Rattle.engine.specs.declared.engine.Mode.TheVariants.{Open, Down, Refused}
 use Rattle.engine.specs.View.{View}
 use Rattle.engine.specs.Opening.{header_for_books, last_of}
+use Rattle.engine.specs.Instructing.{named_trade}
 use Rattle.engine.specs.Lasting.{entry_instruction, standing_list}
 
 abbrev pub HasGoodMark : Medium → ℕ → Type 0
@@ -77,7 +78,7 @@ pub record IsRuleFault (k : ℕ) (x : Instruction) (r : Refusal) (f : Fault) : T
   pub number : number_of f.refusal ≡ 47
   pub block : f.block ≡ None
   pub entry : f.entry ≡ Some k
-  pub trade : f.trade ≡ cond (nat_le 3 x.kind && nat_le x.kind 7) (Some x.trade) None
+  pub trade : f.trade ≡ named_trade x
   pub rule : f.rule ≡ Some r
 
 -- Why entry k is refused with the fault f, where the entries before it lead to s. One call read the
