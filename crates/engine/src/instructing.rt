@@ -1,4 +1,4 @@
-// Instructing: what the rules accept is written first, and only then carried out.
+// Instructing: what the rules accept is written first, and then carried out.
 ghost use Rattle.std.specs.Prelude.{◌≡◌, ◌<◌, IfOk, Ok};
 ghost use Rattle.journal.specs.Places.{EntryPlaces};
 ghost use Rattle.ledger.specs.View.{rulebook_of};
@@ -33,7 +33,20 @@ impl<D: Device, R: Book, C: Book> Engine<D, R, C> {
         Ok(())
     }
 
-    // Carries out an instruction that the checks let pass, once its entry is written and firm.
+    /// Checks an instruction, writes its entry, and then carries it out.
+    ///
+    /// # Errors
+    ///
+    /// In the order of the checks; a fault names the trade of an instruction of kinds 3 to 7.
+    ///
+    /// - 41: the opening was refused.
+    /// - 42: the engine is down.
+    /// - 21 to 26, 30 to 35, 46: the rules refuse the instruction.
+    /// - 36: all entries of the journal are used.
+    /// - 13, with the entry, and with the block of a write: no call was left to write the entry. The
+    ///   engine is then down, with the instruction in hand.
+    ///
+    /// Only the last leaves anything changed.
     pub fn instruct(&mut self, x: &Instruction) -> Result<(), Fault>
         ensures done { TakesInstruction (rulebook_of R.book_kind C.book_kind) x.now
             (view D.medium self.old) (view D.medium self.new) result }
@@ -49,7 +62,7 @@ impl<D: Device, R: Book, C: Book> Engine<D, R, C> {
             self.mode = Mode::Down(*x);
             return Err(fault_about(x, fault.in_entry(self.entry_count)));
         }
-        // Accepted, as the checks found it.
+        // The checks have found that the rules accept it.
         let _ = self.ledger.instruct(x);
         self.entry_count += 1;
         Ok(())

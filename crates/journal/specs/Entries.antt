@@ -15,8 +15,8 @@ use Rattle.journal.specs.Blocks.{record_bytes, mark_bytes, is_mark, record_in}
 abbrev pub write_entry_calls : ℕ → Instruction → ℕ → List DeviceCall
 write_entry_calls k x calls_left =
     take (calls_left + 1) (
-      writing (record_at k) (record_bytes k x) ∷ syncing
-      ∷ writing (mark_at k) (mark_bytes k) ∷ syncing ∷ []
+    writing (record_at k) (record_bytes k x) ∷ syncing
+    ∷ writing (mark_at k) (mark_bytes k) ∷ syncing ∷ []
     )
 
 -- a read of a whole block

@@ -110,6 +110,6 @@ abbrev pub format_calls : List ℕ → ℕ → ℕ → ℕ → List DeviceCall
 format_calls header pairs size calls_left =
     if no_room pairs size then []
     else take (calls_left + 1) (
-      writing 0 zeros ∷ syncing
-      ∷ (mark_writes pairs ++ (syncing ∷ writing 0 header ∷ syncing ∷ []))
+    writing 0 zeros ∷ syncing
+    ∷ (mark_writes pairs ++ (syncing ∷ writing 0 header ∷ syncing ∷ []))
     )
