@@ -1,4 +1,5 @@
--- An answer of 13 to an instruction: no check gives it, and the writing of an entry gives no other refusal.
+-- An answer of 13 to an instruction: no check gives it, and the writing of an entry gives no
+-- other refusal.
 use Rattle.std.proofs.Common.{◌≡◌, ℕ, zero, suc, ◌<◌, leb, Bool, true, false, cond, not, ◌&&◌, eqb, List, [], ◌∷◌, Some, None, Ok, Err, Option, Result, sym, refl, ap, ◌∙◌, subst, arith}
 use Rattle.std.proofs.lemmas.Bool.{and_parts, cond-false, lt-leb, eqb-true, both_ways, eq-eqb}
 use Rattle.refusals.specs.declared.Refusal.{Refusal}

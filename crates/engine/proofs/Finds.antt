@@ -43,8 +43,9 @@ said-so : (r : Result Instruction Refusal) (x : Instruction) → read_in r ≡ S
 said-so (Ok y) x e = ap Ok (same_Some y x e)
 said-so (Err f) x e = absurd (none-some x e)
 
--- What a recovery of n more entries with so many calls gives, where this list is found and leads to t: it ends well
--- where the calls are enough, and if it ends well this is what it found; else it wanted calls.
+-- What a recovery of n more entries with so many calls gives, where this list is found and leads
+-- to t: it ends well where the calls are enough, and if it ends well this is what it found; else
+-- it wanted calls.
 pub record Ends (z : Scan) (n calls : ℕ) (ws : List Instruction) (t : Standing) : Type 0 where
   pub enough : 2 * n ≤ calls → z.outcome ≡ Ok (record { count = length ws; last = last_of ws })
   pub only : (found : FoundEntries) → z.outcome ≡ Ok found → (found ≡ record { count = length ws; last = last_of ws }) × (z.standing ≡ t)
@@ -140,7 +141,8 @@ module _ (h : Rulebook) (pairs : ℕ) (few : pairs ≤ 32767) (m : Medium) (b : 
             ]
       ]
 
--- A recovery of a journal in which an opening finds ws, whose instructions lead to s, finds ws and leads there.
+-- A recovery of a journal in which an opening finds ws, whose instructions lead to s, finds ws
+-- and leads there.
 pub calls-find : (h : Rulebook) (pairs : ℕ) (m : Medium) (ws : List Instruction) (s : Standing) → pairs ≤ 32767 → IsBounded m → Found (blocks_for_books h pairs) m ws → Runs h ws s
     → (calls : ℕ) → Ends (scan h pairs (with_calls_left calls m) 0 empty None) pairs calls ws s
 calls-find h pairs m ws s few b f r calls = recovers h pairs few m b ws f s pairs 0 calls empty None (omega arith) (omega arith) (follows h r) refl

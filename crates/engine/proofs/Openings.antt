@@ -180,7 +180,8 @@ module _ (h : Rulebook) (pairs : ℕ) where
           let z = scan h pairs (after_reads 1 m) 0 empty None in
           scan-opens m xs hand w.0 to.0 z few (omega arith) j w.2 w.3 to.1 (calls-find h pairs m w.0 to.0 few b w.1 to.1 (m.calls_left - 1)) z.outcome refl
 
-  -- What an opening finds on a device that keeps a list: that list, with or without what was in hand.
+  -- What an opening finds on a device that keeps a list: that list, with or without what was in
+  -- hand.
   pub opens : (m : Medium) (xs : List Instruction) (hand : Option Instruction) (v : View) → 0 < pairs → pairs ≤ 32767 → 1 + 2 * pairs ≤ m.size
       → (h.book_kind securities).code < 256 → (h.book_kind cash).code < 256 → IsBounded m → Journal L m xs hand → Lawful h xs hand → v ≡ opening_view h m → OpenedOn h pairs m xs hand v
   opens m xs hand v some few within r c b j lawful is =

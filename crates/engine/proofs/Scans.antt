@@ -17,7 +17,8 @@ scan-more : (h : Rulebook) (n : ℕ) (m : Medium) (k : ℕ) (s : Standing) (last
 unfolding scan
 scan-more h n m k s last = rw (add-one n) refl
 
--- the recovery of m₀ from s₀ on stands before entry k, with this found, at the device m and the standing s
+-- the recovery of m₀ from s₀ on stands before entry k, with this found, at the device m and the
+-- standing s
 pub record Turn (h : Rulebook) (pairs : ℕ) (m₀ : Medium) (s₀ : Standing) (k : ℕ) (found : FoundEntries) (m : Medium) (s : Standing) : Type 0 where
   pub within : k ≤ pairs
   pub counted : found.count ≡ k

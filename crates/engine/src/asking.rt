@@ -42,8 +42,9 @@ impl<D: Device, R: Book, C: Book> Engine<D, R, C> {
     ///
     /// 41: the opening was refused. 21 and 22: the register has no such account, or no such item.
     pub fn securities(&self, account: u16, item: u16) -> Result<Holding, Refusal>
-        ensures { let v = view D.medium self.now in result ≡ if_answering v.mode
-            (holding_question (rulebook_of R.book_kind C.book_kind) v.standing in_securities account item) }
+        ensures { let v = view D.medium self.now in
+            let h = rulebook_of R.book_kind C.book_kind in result ≡ if_answering v.mode
+            (holding_question h v.standing in_securities account item) }
     {
         self.check_opening()?;
         self.ledger.securities(account, item)
@@ -53,10 +54,12 @@ impl<D: Device, R: Book, C: Book> Engine<D, R, C> {
     ///
     /// # Errors
     ///
-    /// 41: the opening was refused. 21 and 22: the cash book has no such account, or no such currency.
+    /// 41: the opening was refused. 21 and 22: the cash book has no such account, or no such
+    /// currency.
     pub fn money(&self, account: u16, currency: u16) -> Result<Holding, Refusal>
-        ensures { let v = view D.medium self.now in result ≡ if_answering v.mode
-            (holding_question (rulebook_of R.book_kind C.book_kind) v.standing in_cash account currency) }
+        ensures { let v = view D.medium self.now in
+            let h = rulebook_of R.book_kind C.book_kind in result ≡ if_answering v.mode
+            (holding_question h v.standing in_cash account currency) }
     {
         self.check_opening()?;
         self.ledger.money(account, currency)
@@ -81,7 +84,8 @@ impl<D: Device, R: Book, C: Book> Engine<D, R, C> {
     ///
     /// 41: the opening was refused.
     pub fn entries(&self) -> Result<u32, Refusal>
-        ensures { let v = view D.medium self.now in result ≡ if_answering v.mode (Ok v.entry_count) }
+        ensures { let v = view D.medium self.now in
+            result ≡ if_answering v.mode (Ok v.entry_count) }
     {
         self.check_opening()?;
         Ok(self.entry_count)

@@ -11,8 +11,9 @@ use book::Book;
 use device::Device;
 
 impl<D: Device, R: Book, C: Book> Engine<D, R, C> {
-    /// Gives the device and the books back, with a closing slip. The slip says how many entries stand,
-    /// and which instruction is in hand if power went; it says nothing where the opening was refused.
+    /// Gives the device and the books back, with a closing slip. The slip says how many entries
+    /// stand, and which instruction is in hand if power went; it says nothing where the opening
+    /// was refused.
     pub fn close(self) -> (D, R, C, Slip)
         ensures device { result.0 ≡ self.device }
         ensures register { R.holdings result.1 ≡ (view D.medium self).standing.book in_securities }

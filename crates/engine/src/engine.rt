@@ -25,12 +25,13 @@ pub enum Mode {
     /// Power went while this instruction was written. The engine answers questions, and refuses
     /// instructions with 42.
     Down(Instruction),
-    /// The opening was refused, by this fault. Books and trades are cleared, and the engine refuses
-    /// instructions and questions with 41.
+    /// The opening was refused, by this fault. Books and trades are cleared, and the engine
+    /// refuses instructions and questions with 41.
     Refused(Fault),
 }
 
-/// An engine: a device with a journal, and the books and trades that the journal's entries lead to.
+/// An engine: a device with a journal, and the books and trades that the journal's entries lead
+/// to.
 #[derive(Drop)]
 pub struct Engine<D: Device, R: Book, C: Book> {
     pub(crate) device: D,

@@ -21,8 +21,8 @@ use journal::{MOST_PAIRS, read_header, read_mark, read_record};
 use ledger::Ledger;
 use refusals::Fault;
 
-// Reads an entry and carries out its instruction. The answer is None where the mark is not good, which
-// ends the list.
+// Reads an entry and carries out its instruction. The answer is None where the mark is not good,
+// which ends the list.
 fn replay_entry<D: Device, R: Book, C: Book>(
     device: &mut D,
     ledger: &mut Ledger<R, C>,
@@ -77,16 +77,16 @@ fn replay<D: Device, R: Book, C: Book>(
 }
 
 impl<D: Device, R: Book, C: Book> Engine<D, R, C> {
-    /// Opens the journal on a device, for these two books: it reads the header, then each entry's mark
-    /// and record, and carries out the instructions. It makes no other calls than reads.
+    /// Opens the journal on a device, for these two books: it reads the header, then each entry's
+    /// mark and record, and carries out the instructions. It makes no other calls than reads.
     ///
-    /// It always gives an engine. Where the opening is refused, `opening` tells the fault, and books and
-    /// trades are cleared:
+    /// It always gives an engine. Where the opening is refused, `opening` tells the fault, and
+    /// books and trades are cleared:
     ///
-    /// - 11, 13, 14, 43, 44 or 45: the header could not be read, or does not fit the books and the
-    ///   device (`journal::read_header` says which is which).
-    /// - 13, 14 or 46, with the entry: a mark or a record could not be read (`journal::read_mark`,
-    ///   `journal::read_record`).
+    /// - 11, 13, 14, 43, 44 or 45: the header could not be read, or does not fit the books and
+    ///   the device (`journal::read_header` says which is which).
+    /// - 13, 14 or 46, with the entry: a mark or a record could not be read
+    ///   (`journal::read_mark`, `journal::read_record`).
     /// - 47, with the entry and the rule's number: the rules refuse the instruction of a record.
     pub fn open(mut device: D, register: R, cash: C) -> Self
         ensures opened { view D.medium result

@@ -14,8 +14,8 @@ pub struct Contents {
     pub hand: Option<Instruction>,
 }
 
-/// What an engine says of a closing slip that is presented to it. The discriminants are the numbers
-/// that operators know.
+/// What an engine says of a closing slip that is presented to it. The discriminants are the
+/// numbers that operators know.
 #[derive(Clone, Copy, Debug, PartialEq, Eq)]
 pub enum Verdict {
     /// 0: the opening found as many entries as stood at the closing.
@@ -48,8 +48,8 @@ impl Verdict {
     }
 }
 
-/// The number of what a slip that was presented is answered: the verdict's, or the refusal's. No two
-/// answers share one.
+/// The number of what a slip that was presented is answered: the verdict's, or the refusal's. No
+/// two answers share one.
 pub fn presented_number(presented: Result<Verdict, Refusal>) -> u8
     ensures { result ≡ presented_number presented }
 {
@@ -59,9 +59,9 @@ pub fn presented_number(presented: Result<Verdict, Refusal>) -> u8
     }
 }
 
-/// A closing slip: plain numbers that an operator keeps from a closing to the next opening. It is owed:
-/// it cannot be dropped before it is presented to an engine or filed. It says nothing where the opening
-/// of the engine that was closed had been refused.
+/// A closing slip: plain numbers that an operator keeps from a closing to the next opening. It is
+/// owed: it cannot be dropped before it is presented to an engine or filed. It says nothing where
+/// the opening of the engine that was closed had been refused.
 pub struct Slip {
     holds: Option<Contents>,
     // presented or filed
@@ -96,8 +96,8 @@ impl Slip {
         self.holds.is_some()
     }
 
-    /// Files the slip unseen by an engine, and gives what it says, if anything. The slip is then no
-    /// longer owed.
+    /// Files the slip unseen by an engine, and gives what it says, if anything. The slip is then
+    /// no longer owed.
     pub fn file(mut self) -> Option<Contents>
         ensures { result ≡ contents self }
     {

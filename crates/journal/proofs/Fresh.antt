@@ -37,7 +37,8 @@ blank-none pairs m none =
       firm = λ h. absurd (omega arith);
     }
 
--- the device as it was, with no header, with no marks, and at the end: a step that was not begun left it as it was
+-- the device as it was, with no header, with no marks, and at the end: a step that was not begun
+-- left it as it was
 module _ (header : List ℕ) (pairs : ℕ) {m₀ m₁ m₂ m₃ : Medium} (one : WritesAndSyncs 0 zeros m₀ m₁) (two : BlanksMarks pairs m₁ m₂) (three : WritesAndSyncs 0 header m₂ m₃)
     (early : m₀.calls_left < 2 → m₂ ≡ m₁) (late : m₀.calls_left < pairs + 3 → m₃ ≡ m₂) where
   spent : m₂.calls_left ≡ m₀.calls_left - (pairs + 3)

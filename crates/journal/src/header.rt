@@ -13,19 +13,19 @@ use refusals::Refusal;
 /// What the header of a journal says.
 #[derive(Clone, Copy, Debug, PartialEq, Eq)]
 pub struct Header {
-    /// The kind of the register, 0 to 255. It is a byte and no enum, since anyone may write a book of
-    /// a new kind.
+    /// The kind of the register, 0 to 255. It is a byte and no enum, since anyone may write a
+    /// book of a new kind.
     pub register: u8,
     /// The kind of the cash book, 0 to 255.
     pub cash: u8,
-    /// How many pairs of a record and a mark the journal has, 1 to `MOST_PAIRS` where it stands on a
-    /// device.
+    /// How many pairs of a record and a mark the journal has, 1 to `MOST_PAIRS` where it stands
+    /// on a device.
     pub pairs: u32,
 }
 
 impl Header {
-    /// The header as bytes: the edition, which is 1, the number of books, which is 2, the two kinds,
-    /// the number of pairs in four bytes, the lowest first, and zeros.
+    /// The header as bytes: the edition, which is 1, the number of books, which is 2, the two
+    /// kinds, the number of pairs in four bytes, the lowest first, and zeros.
     pub fn to_block(self) -> [u8; BLOCK_SIZE]
         ensures value { result ≡ header_bytes self }
         ensures places { HeaderPlaces self.register self.cash self.pairs result }
@@ -44,8 +44,8 @@ impl Header {
     ///
     /// # Errors
     ///
-    /// 43: the block has another edition, another number of books, a number of pairs that no journal
-    /// can have, or a byte past them that is not 0.
+    /// 43: the block has another edition, another number of books, a number of pairs that no
+    /// journal can have, or a byte past them that is not 0.
     pub fn from_block(block: &[u8; BLOCK_SIZE]) -> Result<Header, Refusal>
         ensures value { result ≡ header_in block.now }
         ensures exact { ReadsHeader block.now result }
