@@ -27,14 +27,15 @@ impl<R: Book, C: Book> Parts<R, C> {
         }
     }
 
-    // Has the two books do what the instruction asks for, its trade being this one. Their answers are
-    // dropped: the books accept whatever the rules accept.
+    // Has the two books do what the instruction asks for, its trade being this one. Their answers
+    // are dropped: the books accept whatever the rules accept.
     fn move_holdings(&mut self, kind: Kind, trade: &Trade, x: &Instruction)
         ensures register { R.holdings self.new.register
             ≡ book_after R.book_kind in_securities (Some kind) x.now trade.now
             (R.holdings self.old.register) }
         ensures cash { C.holdings self.new.cash
-            ≡ book_after C.book_kind in_cash (Some kind) x.now trade.now (C.holdings self.old.cash) }
+            ≡ book_after C.book_kind in_cash (Some kind) x.now trade.now
+            (C.holdings self.old.cash) }
         ensures trades { self.new.trades ≡ self.old.trades }
     {
         let Terms {

@@ -26,7 +26,8 @@ not-false : (b : Bool) → not b ≡ false → b ≡ true
 not-false true e = refl
 not-false false e = sym e
 
--- an accepted instruction on a trade: there is a trade with this number, and its state is one to start from
+-- an accepted instruction on a trade: there is a trade with this number, and its state is one to
+-- start from
 pub record Right (k : Act) (o : State) (x : Instruction) : Type 0 where
   pub low : x.trade < 128
   pub from : may_start k o ≡ true

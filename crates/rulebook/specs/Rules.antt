@@ -21,8 +21,8 @@ use Rattle.rulebook.specs.declared.Trade.{Trade}
 use Rattle.rulebook.specs.Table.{Act, is_among, state_after, may_start, next_state}
 use Rattle.rulebook.specs.Terms.{no_terms, terms_of, Side, securities, cash, giver, taker, asset, volume}
 
--- The letters here: h a rule book, s a standing, x an instruction, k what it asks for, d a side, and
--- of a trade t its number, o its state, m its terms.
+-- The letters here: h a rule book, s a standing, x an instruction, k what it asks for, d a side,
+-- and of a trade t its number, o its state, m its terms.
 
 -- What is fixed before the first instruction.
 pub record Rulebook : Type 0 where
@@ -75,8 +75,8 @@ module _ (h : Rulebook) where
   enter_checks x =
       nat_eq x.account x.counterparty refuses 33
       ∷ (nat_le ACCOUNTS x.account || nat_le ACCOUNTS x.counterparty) refuses 21
-      ∷ (nat_le (h.book_kind securities).items x.item || nat_le (h.book_kind cash).items x.currency)
-      refuses 22
+      ∷ (nat_le (h.book_kind securities).items x.item
+      || nat_le (h.book_kind cash).items x.currency) refuses 22
       ∷ (x.quantity == 0 || x.amount == 0) refuses 23 ∷ []
 
   -- the checks of a kind, where the trade is in state o on terms m
@@ -164,8 +164,8 @@ next_trade k x trade =
     (next_state k trade.state)
 
 -- What an instruction has one side's book do, where its trade is in state o on terms m. An Issue
--- credits the register, a Pay in the cash book. An Earmark blocks what the seller gives, a Fund what
--- the buyer pays. A Settle moves both. A Free releases whatever its trade has blocked.
+-- credits the register, a Pay in the cash book. An Earmark blocks what the seller gives, a Fund
+-- what the buyer pays. A Settle moves both. A Free releases whatever its trade has blocked.
 abbrev pub deed : Act → Side → State → Terms → Instruction → Deed
 deed (Some Issue) securities o m x = crediting x.account x.item x.quantity
 deed (Some Issue) cash o m x = no_change
