@@ -5,7 +5,7 @@ ghost use Rattle.ledger.specs.Rows.{state_question};
 ghost use Rattle.ledger.specs.View.{rulebook_of, holding_question};
 ghost use Rattle.engine.specs.View.{view};
 ghost use Rattle.engine.specs.ClosingSlip.{contents, HasVerdict};
-ghost use Rattle.engine.specs.Asking.{opening_answer, if_answering, presented};
+ghost use Rattle.engine.specs.Asking.{opening_answer, if_answering, present_answer};
 
 use crate::engine::{Engine, Mode};
 use crate::slip::{Slip, Verdict};
@@ -26,7 +26,7 @@ impl<D: Device, R: Book, C: Book> Engine<D, R, C> {
     }
 
     // An engine whose opening was refused answers no question.
-    fn answering(&self) -> Result<(), Refusal>
+    fn check_opening(&self) -> Result<(), Refusal>
         ensures { result ≡ if_answering (view D.medium self.now).mode (Ok tt) }
     {
         self.opening().map_err(|_| Refusal::OpeningRefused)
@@ -37,7 +37,7 @@ impl<D: Device, R: Book, C: Book> Engine<D, R, C> {
         ensures { let v = view D.medium self.now in result ≡ if_answering v.mode
             (holding_question (rulebook_of R.book_kind C.book_kind) v.standing in_securities account item) }
     {
-        self.answering()?;
+        self.check_opening()?;
         self.ledger.securities(account, item)
     }
 
@@ -46,14 +46,14 @@ impl<D: Device, R: Book, C: Book> Engine<D, R, C> {
         ensures { let v = view D.medium self.now in result ≡ if_answering v.mode
             (holding_question (rulebook_of R.book_kind C.book_kind) v.standing in_cash account currency) }
     {
-        self.answering()?;
+        self.check_opening()?;
         self.ledger.money(account, currency)
     }
 
     pub fn trade_state(&self, number: u32) -> Result<State, Refusal>
         ensures { let v = view D.medium self.now in result ≡ if_answering v.mode (state_question v.standing.state number) }
     {
-        self.answering()?;
+        self.check_opening()?;
         self.ledger.trade_state(number)
     }
 
@@ -61,8 +61,8 @@ impl<D: Device, R: Book, C: Book> Engine<D, R, C> {
     pub fn entries(&self) -> Result<u32, Refusal>
         ensures { let v = view D.medium self.now in result ≡ if_answering v.mode (Ok v.entry_count) }
     {
-        self.answering()?;
-        Ok(self.count)
+        self.check_opening()?;
+        Ok(self.entry_count)
     }
 
     // How many entries the opening found, 0 where it was refused.
@@ -74,13 +74,13 @@ impl<D: Device, R: Book, C: Book> Engine<D, R, C> {
 
     // The verdict on a slip; where the opening was refused, the slip comes back.
     pub fn present(&self, slip: Slip) -> Result<Verdict, (Refusal, Slip)>
-        ensures answer { result ≡ presented (view D.medium self.now) slip }
+        ensures answer { result ≡ present_answer (view D.medium self.now) slip }
         ensures exact { let v = view D.medium self.now in
             IfOk result (λ verdict. HasVerdict (contents slip) v.found v.last_found verdict) }
     {
         match self.mode {
             Mode::Refused(_) => Err((Refusal::OpeningRefused, slip)),
-            Mode::Open | Mode::Down(_) => Ok(slip.judge(self.found.count, self.found.last)),
+            Mode::Open | Mode::Down(_) => Ok(slip.verdict(self.found.count, self.found.last)),
         }
     }
 }

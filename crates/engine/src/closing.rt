@@ -22,7 +22,7 @@ impl<D: Device, R: Book, C: Book> Engine<D, R, C> {
             device,
             ledger,
             mode,
-            count,
+            entry_count,
             pairs: _,
             found: _,
         } = self;
@@ -31,14 +31,14 @@ impl<D: Device, R: Book, C: Book> Engine<D, R, C> {
             Mode::Down(x) => Some(x),
             Mode::Refused(_) => {
                 let (register, cash) = ledger.into_books();
-                return (device, register, cash, Slip::owed(None));
+                return (device, register, cash, Slip::new(None));
             }
         };
         let (register, cash) = ledger.into_books();
         let holds = Contents {
-            entries: count,
+            entries: entry_count,
             hand,
         };
-        (device, register, cash, Slip::owed(Some(holds)))
+        (device, register, cash, Slip::new(Some(holds)))
     }
 }

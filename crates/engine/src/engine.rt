@@ -1,5 +1,6 @@
 // The engine: a device and a ledger under one journal.
 ghost use Rattle.std.specs.Prelude.{◌≤◌, ◌<◌, ◌*◌};
+ghost use Rattle.journal.specs.declared.TheConstants.{MOST_PAIRS};
 
 use book::Book;
 use device::Device;
@@ -9,7 +10,7 @@ use refusals::Fault;
 
 // How many entries a recovery found, and the last of them.
 #[derive(Clone, Copy, Debug, Default, PartialEq, Eq)]
-pub struct Recovered {
+pub struct FoundEntries {
     pub count: u32,
     pub last: Option<Instruction>,
 }
@@ -31,10 +32,10 @@ pub struct Engine<D: Device, R: Book, C: Book> {
     // entries that the journal has room for
     pub(crate) pairs: u32,
     // what the opening found
-    pub(crate) found: Recovered,
+    pub(crate) found: FoundEntries,
     // entries that stand
-    pub(crate) count: u32,
-    ghost few: { pairs ≤ 32767 },
-    ghost within: { count ≤ pairs },
+    pub(crate) entry_count: u32,
+    ghost few: { pairs ≤ MOST_PAIRS },
+    ghost within: { entry_count ≤ pairs },
     ghost fits: { 0 < pairs → 2 * pairs < (D.medium device).size },
 }

@@ -3,11 +3,10 @@
 
 mod asking;
 mod closing;
-pub mod engine;
+mod engine;
 mod instructing;
-pub mod opening;
-pub mod slip;
-mod writing;
+mod opening;
+mod slip;
 
 pub use engine::{Engine, Mode};
 pub use slip::{Contents, Slip, Verdict, presented_number};

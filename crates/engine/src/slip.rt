@@ -1,6 +1,6 @@
 // The closing slip: plain numbers, owed until it is presented or filed.
 ghost use Rattle.std.specs.Prelude.{◌≡◌, true, is_some};
-ghost use Rattle.engine.specs.ClosingSlip.{contents, IsOwed, slip_verdict, HasVerdict, number_of, verdict_place, presented_number, PresentedApart, is_last};
+ghost use Rattle.engine.specs.ClosingSlip.{contents, IsOwed, slip_verdict, HasVerdict, verdict_number, verdict_place, presented_number, PresentedApart, is_last_found};
 
 use instruction::Instruction;
 use refusals::{Place, Refusal};
@@ -28,7 +28,7 @@ pub enum Verdict {
 impl Verdict {
     #[tactic(auto, using(crate::proofs::Verdicts::presented_apart))]
     pub fn number(self) -> u8
-        ensures value { result ≡ number_of self }
+        ensures value { result ≡ verdict_number self }
         ensures apart { PresentedApart }
     {
         self as u8
@@ -71,7 +71,7 @@ impl Drop for Slip {
 }
 
 impl Slip {
-    pub(crate) fn owed(holds: Option<Contents>) -> Slip
+    pub(crate) fn new(holds: Option<Contents>) -> Slip
         ensures holds { contents result ≡ holds }
         ensures owed { IsOwed result }
     {
@@ -97,7 +97,7 @@ impl Slip {
     }
 
     // The verdict where so many entries were found, with this one the last.
-    pub(crate) fn judge(self, found: u32, last: Option<Instruction>) -> Verdict
+    pub(crate) fn verdict(self, found: u32, last: Option<Instruction>) -> Verdict
         ensures value { result ≡ slip_verdict (contents self) found last }
         ensures exact { HasVerdict (contents self) found last result }
     {
@@ -107,7 +107,7 @@ impl Slip {
         if found == holds.entries {
             return Verdict::Same;
         }
-        if holds.entries.checked_add(1) == Some(found) && is_last(holds.hand, last) {
+        if holds.entries.checked_add(1) == Some(found) && is_last_found(holds.hand, last) {
             return Verdict::Stands;
         }
         Verdict::Differs
@@ -115,8 +115,8 @@ impl Slip {
 }
 
 // An instruction is in hand, and it is the last that was found.
-fn is_last(hand: Option<Instruction>, last: Option<Instruction>) -> bool
-    ensures { result ≡ is_last hand last }
+fn is_last_found(hand: Option<Instruction>, last: Option<Instruction>) -> bool
+    ensures { result ≡ is_last_found hand last }
 {
     hand.is_some() && hand == last
 }

@@ -1,5 +1,4 @@
--- Where each number stands in a journal's blocks, and each block on its device, counted out by no word
--- of the layout.
+-- Where each number lies in a journal's blocks, and each block on its device, counted out.
 use Rattle.std.specs.Prelude.{◌≡◌, ℕ, ◌+◌, ◌*◌, ◌^◌, ◌<◌, ◌≤◌, List, length, Some, ◌≢◌, slice_index_or}
 use Rattle.device.specs.declared.TheConstants.{BLOCK_SIZE}
 use Rattle.device.specs.Medium.{Medium}

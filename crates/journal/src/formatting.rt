@@ -5,9 +5,11 @@ ghost use Rattle.device.specs.Traces.{IsTrace, writing, syncing};
 ghost use Rattle.journal.specs.Blocks.{header_bytes, journal_blocks};
 ghost use Rattle.journal.specs.Journal.{Journal};
 ghost use Rattle.journal.specs.Places.{FormatPlaces};
-ghost use Rattle.journal.specs.Format.{header_for_kinds, no_room, format_answer, Formats, keep_answer, Kept, blank_answer, Blanked, mark_writes, format_calls};
+ghost use Rattle.journal.specs.Format.{header_for_kinds, no_room, format_answer, Formats, write_sync_answer, WritesAndSyncs, blank_marks_answer, BlanksMarks, mark_writes, format_calls};
 
-use crate::header::{Header, MOST_PAIRS};
+use crate::MOST_PAIRS;
+use crate::entry::mark_block_number;
+use crate::header::Header;
 use device::{BLOCK_SIZE, Device};
 use refusals::{Fault, Refusal};
 
@@ -16,8 +18,8 @@ const ZEROS: [u8; BLOCK_SIZE] = [0; BLOCK_SIZE];
 // Writes a block, and syncs.
 fn keep<D: Device>(device: &mut D, block: u32, bytes: &[u8; BLOCK_SIZE]) -> Result<(), Fault>
     requires { block < (D.medium device.old).size }
-    ensures answer { result ≡ keep_answer block (D.medium device.old).calls_left }
-    ensures after { Kept block bytes.now (D.medium device.old) (D.medium device.new) }
+    ensures answer { result ≡ write_sync_answer block (D.medium device.old).calls_left }
+    ensures after { WritesAndSyncs block bytes.now (D.medium device.old) (D.medium device.new) }
     ensures trace { IsTrace D.makes (take ((D.medium device.old).calls_left + 1) (writing block bytes.now ∷ syncing ∷ []))
         device.old device.new }
 {
@@ -27,15 +29,15 @@ fn keep<D: Device>(device: &mut D, block: u32, bytes: &[u8; BLOCK_SIZE]) -> Resu
 
 // Puts zeros, which are no good mark, in place of the mark of each entry, and syncs.
 fn blank_marks<D: Device>(device: &mut D, pairs: u32) -> Result<(), Fault>
-    requires few { pairs ≤ 32767 }
+    requires few { pairs ≤ MOST_PAIRS }
     requires within { 1 + 2 * pairs ≤ (D.medium device.old).size }
-    ensures answer { result ≡ blank_answer pairs (D.medium device.old).calls_left }
-    ensures after { Blanked pairs (D.medium device.old) (D.medium device.new) }
+    ensures answer { result ≡ blank_marks_answer pairs (D.medium device.old).calls_left }
+    ensures after { BlanksMarks pairs (D.medium device.old) (D.medium device.new) }
     ensures trace { IsTrace D.makes (take ((D.medium device.old).calls_left + 1) (mark_writes pairs ++ (syncing ∷ [])))
         device.old device.new }
 {
     for entry in 0..pairs {
-        device.write(2 + 2 * entry, &ZEROS)?;
+        device.write(mark_block_number(entry), &ZEROS)?;
     }
     device.sync()
 }

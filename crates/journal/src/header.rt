@@ -4,12 +4,11 @@ ghost use Rattle.journal.specs.Blocks.{header_bytes, header_in};
 ghost use Rattle.journal.specs.Places.{HeaderPlaces};
 ghost use Rattle.journal.specs.Reading.{ReadsHeader};
 
+use crate::MOST_PAIRS;
 use crate::zeros::all_zero;
+use device::BLOCK_SIZE;
 use little_endian::LittleEndian;
 use refusals::Refusal;
-
-// As many pairs of a record and a mark as a journal may have.
-pub(crate) const MOST_PAIRS: u32 = 32767;
 
 #[derive(Clone, Copy, Debug, PartialEq, Eq)]
 pub struct Header {
@@ -21,12 +20,12 @@ pub struct Header {
 
 // Both ways are methods, by names that say what the bytes are.
 impl Header {
-    pub fn to_block(self) -> [u8; 256]
+    pub fn to_block(self) -> [u8; BLOCK_SIZE]
         ensures value { result ≡ header_bytes self }
         ensures places { HeaderPlaces self.register self.cash self.pairs result }
     {
         let pairs: [u8; 4] = self.pairs.to_little_endian();
-        let mut block = [0; 256];
+        let mut block = [0; BLOCK_SIZE];
         block[0] = 1;
         block[1] = 2;
         block[2] = self.register;
@@ -37,7 +36,7 @@ impl Header {
 
     // A block of any other edition, number of books or of pairs is not a header, nor is one with a byte
     // past them that is not 0.
-    pub fn from_block(block: &[u8; 256]) -> Result<Header, Refusal>
+    pub fn from_block(block: &[u8; BLOCK_SIZE]) -> Result<Header, Refusal>
         ensures value { result ≡ header_in block.now }
         ensures exact { ReadsHeader block.now result }
     {
