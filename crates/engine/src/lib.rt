@@ -2,9 +2,9 @@
 //!
 //! It takes a device and two books, finds the list of entries in the device's journal, and from
 //! then on writes each instruction that the rules accept into the journal before it carries it
-//! out. So after a loss of power the list alone leads books and trades to where they stood:
-//! redo-only write-ahead logging (Gray and Reuter, *Transaction Processing*, 1993), with nothing
-//! to undo.
+//! out. So after a loss of power the list alone leads books and trades to where they stood.
+//! (Write-ahead logging with redo and no undo: see Gray and Reuter, *Transaction Processing*,
+//! 1993.)
 //!
 //! - `Engine::open` promises what it finds on a device that may hold anything, and why it is
 //!   refused (clause `found`, by `Opens` of specs/Findings), and that it changes no block
@@ -27,5 +27,5 @@ mod instructing;
 mod opening;
 mod slip;
 
-pub use engine::{Engine, FoundEntries, Mode};
+pub use engine::{Engine, Mode};
 pub use slip::{Contents, Slip, Verdict, presented_number};

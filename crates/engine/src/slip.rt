@@ -62,6 +62,7 @@ pub fn presented_number(presented: Result<Verdict, Refusal>) -> u8
 /// A closing slip: plain numbers that an operator keeps from a closing to the next opening. It is
 /// owed: it cannot be dropped before it is presented to an engine or filed. It says nothing where
 /// the opening of the engine that was closed had been refused.
+#[derive(Debug)]
 pub struct Slip {
     holds: Option<Contents>,
     // presented or filed
