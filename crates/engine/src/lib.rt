@@ -12,8 +12,8 @@
 //! - `Engine::instruct` promises the answer, what it leaves (`done`, by `TakesInstruction` of
 //!   specs/Instructing), and when it takes the engine down (`cut`).
 //! - `Engine::close` and `Engine::present` promise what the closing slip says (`slip`) and the
-//!   verdict on it (`exact`, by `HasVerdict` of specs/ClosingSlip). A slip cannot be dropped
-//!   unseen.
+//!   verdict on it (`exact`, by `HasVerdict` of specs/ClosingSlip). A slip can be dropped only
+//!   after it was presented or filed.
 //! - Each promises which calls it makes to the device (`trace`).
 //!
 //! It rests on `device` and `book`, which are interfaces, on `ledger` for the rules, and on

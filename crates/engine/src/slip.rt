@@ -97,8 +97,8 @@ impl Slip {
         self.holds.is_some()
     }
 
-    /// Files the slip unseen by an engine, and gives what it says, if anything. The slip is then
-    /// no longer owed.
+    /// Files the slip, in place of presenting it, and gives what it says, if anything. The slip is
+    /// then no longer owed.
     pub fn file(mut self) -> Option<Contents>
         ensures { result ≡ contents self }
     {

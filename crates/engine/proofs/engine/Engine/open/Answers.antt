@@ -6,7 +6,7 @@ use Rattle.engine.specs.View.{view}
 use Rattle.engine.specs.Opening.{refused_view}
 use Rattle.engine.proofs.Opens.{headed}
 use Rattle.engine.proofs.Readings.{header-read, header-then, opening-traced}
-use Rattle.engine.proofs.Standings.{opens-well, opens-keeping, opens-promptly}
+use Rattle.engine.proofs.Findings.{opens-well, opens-keeping, opens-promptly}
 use Rattle.engine.proofs.engine.Engine.open.Goals as goal
 
 pub returns-in-Ok-clause-opened : goal.returns-in-Ok-clause-opened
