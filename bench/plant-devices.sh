@@ -1,6 +1,6 @@
 #!/bin/sh
 # Plants one fault after another in a copy of the twin, and shows whether devices finds it.
-# usage: ./plant-devices.sh, once crates/bindings/out has the library
+# usage: ./plant-devices.sh, once crates/bench_library/out has the library
 set -eu
 cd "$(dirname "$0")"
 rm -rf planted
@@ -17,7 +17,7 @@ p = os.environ["FILE"]; s = open(p).read(); f = os.environ["FROM"]
 assert s.count(f) == 1, (p, f, s.count(f))
 open(p, "w").write(s.replace(f, os.environ["TO"]))
 P
-    (cd planted/library && LIBRARY=$(realpath ../../../crates/bindings/out) cargo build --release --offline --quiet --bin devices 2>/dev/null)
+    (cd planted/library && LIBRARY=$(realpath ../../../crates/bench_library/out) cargo build --release --offline --quiet --bin devices 2>/dev/null)
     status=0
     planted/library/target/release/devices 3000 1 2 > planted/out 2> planted/errors || status=$?
     echo "$1: $2 -> $3"

@@ -1,12 +1,12 @@
-//! Links the proved engine, which `rt lib` in crates/bindings builds, and the kit's few lines of C for a library's memory, which
+//! Links the proved engine, which `rt lib` in crates/bench_library builds, and the kit's few lines of C for a library's memory, which
 //! lie beside `rt`. LIBRARY and KIT_C may name other folders.
 
 use std::env;
 use std::path::{Path, PathBuf};
 
 fn main() {
-    let own = Path::new(env!("CARGO_MANIFEST_DIR")).join("../../crates/bindings/out");
-    link("LIBRARY", own, "bindings");
+    let own = Path::new(env!("CARGO_MANIFEST_DIR")).join("../../crates/bench_library/out");
+    link("LIBRARY", own, "bench_library");
     let kit = kit().expect("rt is on the path");
     link("KIT_C", kit.join("c"), "libc_c");
 }

@@ -1,4 +1,4 @@
-//! The rows of crates/bindings.
+//! The rows of crates/bench_library.
 
 use std::fmt;
 

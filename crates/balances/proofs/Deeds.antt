@@ -1,10 +1,10 @@
 -- The accepted deeds on a table: what each is answered, what it leaves, and that the table stays sound. Assumes nothing.
 use Rattle.std.proofs.Common.{◌≡◌, ℕ, ◌+◌, ◌-◌, ◌<◌, ◌≤◌, List, [], length, get_or, Ok, sym, refl, ap, ◌∙◌, subst, arith}
 use Rattle.std.proofs.lemmas.Bool.{eq-eqb}
-use Rattle.answers.specs.declared.Refusal.{Refusal}
+use Rattle.refusals.specs.declared.Refusal.{Refusal}
 use Rattle.book.specs.declared.Holding.{Holding}
 use Rattle.book.specs.Holdings.{Holdings, total, limit, Deed, apply, crediting, blocking, moving, lowered}
-use Rattle.book.specs.Rulings.{ruling, outcome, asked, covering}
+use Rattle.book.specs.Rulings.{ruling, outcome, amount_answer, covering}
 use Rattle.book.proofs.Totals.{amount-le-total}
 use Rattle.book.proofs.Accepted.{outcome-ok, asked-ok, covers-ok, credit-fits, block-accepted, move-accepted, stays-within}
 use Rattle.balances.specs.declared.table.Balances.{Balances}
@@ -45,7 +45,7 @@ module _ (book : Balances) (A I q : ℕ) where
   pub credit-room : Ok tt ≡ ruling balances_kind (amounts rows) (crediting A I q) → (at rows A I).free + (at rows A I).blocked + q ≤ 1000000000000
   credit-room e = let f = credit-fits balances_kind (amounts rows) A I q e in omega (arith, amount-le-total (amounts rows) A I f.0, f.3)
 
-  module _ (held : Holding) (e : Ok held ≡ asked balances_kind (at rows) A I) where
+  module _ (held : Holding) (e : Ok held ≡ amount_answer balances_kind (at rows) A I) where
     place : (A < 64) × (I < 16) × (held ≡ at rows A I)
     place = asked-ok balances_kind (at rows) A I held e
 

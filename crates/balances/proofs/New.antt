@@ -5,7 +5,7 @@ use Rattle.std.proofs.lemmas.Bool.{cases_lt}
 use Rattle.book.specs.declared.Holding.{Holding}
 use Rattle.book.specs.Holdings.{nothing}
 use Rattle.book.proofs.Same.{holdings-same}
-use Rattle.book.proofs.Sums.{up_to-zero}
+use Rattle.book.proofs.Sums.{sum_below-zero}
 use Rattle.book.specs.Rulings.{no_holding}
 use Rattle.balances.specs.Rows.{at, amounts, Full, Within}
 
@@ -29,4 +29,4 @@ pub fresh-full : Full fresh
 fresh-full = (length-replicate 16 (replicate 64 no_holding), λ i l. ap length (get_or-replicate 16 i (replicate 64 no_holding) [] l) ∙ length-replicate 64 no_holding)
 
 pub fresh-within : Within fresh
-fresh-within i = omega (arith, up_to-zero 64 _ (λ a. ap (λ h. h.free + h.blocked) (at-fresh a i)))
+fresh-within i = omega (arith, sum_below-zero 64 _ (λ a. ap (λ h. h.free + h.blocked) (at-fresh a i)))

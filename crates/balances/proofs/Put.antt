@@ -4,7 +4,7 @@ use Rattle.std.proofs.Common.{sym, ap, ◌∙◌, ⊎_elim, arith}
 use Rattle.std.proofs.lemmas.List.{get_or-set_same, get_or-set_other, length-set}
 use Rattle.std.proofs.lemmas.Bool.{cases_eq, and_left, and_right, and_from, eq-eqb, ne_eqb}
 use Rattle.book.specs.declared.Holding.{Holding}
-use Rattle.book.specs.Sums.{here}
+use Rattle.book.specs.Sums.{is_place}
 use Rattle.book.specs.Holdings.{Holdings, apply, crediting, blocking, lowered}
 use Rattle.book.proofs.Same.{holdings-same}
 use Rattle.book.proofs.Change.{kept-at, raised-at, lowered-at}
@@ -37,7 +37,7 @@ module _ (rows : List (List Holding)) (A I : ℕ) (h : Holding) (li : I < length
         (λ ne. ap length (other-row i ne) ∙ full.1 i l) (cases_eq i I),
   )
 
-  pub at-put : A < length (slice_index_or rows I []) → (a i : ℕ) → at (put rows A I h) a i ≡ cond (here A I a i) h (at rows a i)
+  pub at-put : A < length (slice_index_or rows I []) → (a i : ℕ) → at (put rows A I h) a i ≡ cond (is_place A I a i) h (at rows a i)
   at-put la a i =
       ⊎_elim
       (λ e. let row = ap (λ r. get_or r a no_holding) (same-row i e) in
@@ -53,13 +53,13 @@ module _ (rows : List (List Holding)) (A I : ℕ) (h : Holding) (li : I < length
 
   -- the amounts of a book that agrees with h at the place, and elsewhere with what was there
   pub amounts-put : A < length (slice_index_or rows I []) → (c : Holdings)
-      → ((a i : ℕ) → cond (here A I a i) h.free (at rows a i).free ≡ c.free a i)
-      → ((a i : ℕ) → cond (here A I a i) h.blocked (at rows a i).blocked ≡ c.blocked a i)
+      → ((a i : ℕ) → cond (is_place A I a i) h.free (at rows a i).free ≡ c.free a i)
+      → ((a i : ℕ) → cond (is_place A I a i) h.blocked (at rows a i).blocked ≡ c.blocked a i)
       → amounts (put rows A I h) ≡ c
   amounts-put la c p q =
       holdings-same (amounts (put rows A I h)) c
-      (λ a i. ap (λ g. g.free) (at-put la a i) ∙ free-of (here A I a i) h (at rows a i) ∙ p a i)
-      (λ a i. ap (λ g. g.blocked) (at-put la a i) ∙ blocked-of (here A I a i) h (at rows a i) ∙ q a i)
+      (λ a i. ap (λ g. g.free) (at-put la a i) ∙ free-of (is_place A I a i) h (at rows a i) ∙ p a i)
+      (λ a i. ap (λ g. g.blocked) (at-put la a i) ∙ blocked-of (is_place A I a i) h (at rows a i) ∙ q a i)
 
 module _ (rows : List (List Holding)) (A I q : ℕ) (li : I < length rows) (la : A < length (slice_index_or rows I [])) where
   f : ℕ → ℕ → ℕ

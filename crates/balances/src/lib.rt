@@ -6,13 +6,13 @@ mod table;
 ghost use Rattle.std.specs.Prelude.{◌≡◌};
 ghost use Rattle.std.proofs.Common.{ap, rules};
 ghost use Rattle.book.specs.Holdings.{nothing};
-ghost use Rattle.book.specs.Rulings.{asked};
+ghost use Rattle.book.specs.Rulings.{amount_answer};
 ghost use Rattle.balances.specs.Rows.{balances_kind, at};
 ghost use Rattle.balances.specs.Meaning.{meaning};
 ghost use Rattle.balances.specs.Outside.{at-outside};
 
-use answers::Refusal;
 use book::{ACCOUNTS, Book, Holding, covers};
+use refusals::Refusal;
 pub use table::Balances;
 
 const ITEMS: u16 = 16;
@@ -33,7 +33,7 @@ impl Balances {
 
     // What an account has of an item, where the book has both: each book tests for its own number of items.
     fn held(&self, account: u16, item: u16) -> Result<Holding, Refusal>
-        ensures { result ≡ asked balances_kind (at self.now.rows) account item }
+        ensures { result ≡ amount_answer balances_kind (at self.now.rows) account item }
     {
         if account >= ACCOUNTS {
             return Err(Refusal::NoAccount);
@@ -48,17 +48,17 @@ impl Balances {
 impl Book for Balances {
     ghost holdings = { meaning };
 
-    ghost fixed = { balances_kind };
+    ghost book_kind = { balances_kind };
 
-    ghost within = { Prim.search rules };
+    ghost within_limit = { Prim.search rules };
 
-    ghost outside = { λ b account item out.
+    ghost nothing_outside = { λ b account item out.
         let e = at-outside b.rows b.full account item out in
         (ap (λ h. h.free) e, ap (λ h. h.blocked) e) };
 
-    ghost narrow = { Prim.search rules };
+    ghost kind_fits = { Prim.search rules };
 
-    ghost useful = { Prim.search rules };
+    ghost kind_useful = { Prim.search rules };
 
     fn clear(&mut self) {
         *self = Balances::new();

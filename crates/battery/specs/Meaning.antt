@@ -1,7 +1,8 @@
 -- What a battery-backed device means. Assumes nothing.
 use Rattle.std.specs.Prelude.{◌≡◌, ℕ, List, length, vec_items}
 use Rattle.device.specs.Medium.{Medium}
-use Rattle.device.specs.Calls.{admitted, if_ok}
+use Rattle.refusals.specs.Answers.{if_ok}
+use Rattle.device.specs.Calls.{admitted}
 use Rattle.device.specs.Images.{blocks, held, put, row, imaged}
 use Rattle.device.specs.Traces.{DeviceCall, reading, writing, syncing, restarting, ImageMade}
 use Rattle.battery.specs.Rows.{never_loose, written}
@@ -11,7 +12,7 @@ abbrev pub image_of : Battery → List ℕ
 image_of d = vec_items d.rows.image
 
 abbrev pub meaning : Battery → Medium
-meaning d = imaged 257 held never_loose (image_of d) d.rows.left
+meaning d = imaged 257 held never_loose (image_of d) d.rows.calls_left
 
 -- the image after a write to block b
 abbrev pub image_written : List ℕ → ℕ → List ℕ → List ℕ
@@ -26,7 +27,7 @@ ImageAfter xs left (restarting calls remains) ys = ys ≡ xs
 
 -- the image and the calls left, by which all that a caller can see of the device is said
 abbrev pub state_of : Battery → List ℕ × ℕ
-state_of d = (image_of d, d.rows.left)
+state_of d = (image_of d, d.rows.calls_left)
 
 -- what a call makes of the device d
 abbrev pub Makes : Battery → DeviceCall → Battery → Type 0

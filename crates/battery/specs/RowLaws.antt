@@ -6,7 +6,7 @@ use Rattle.std.proofs.lemmas.Bool.{cases_Bool, cond-true, cond-false}
 use Rattle.device.specs.Bytes.{Bytes}
 use Rattle.device.specs.Images.{kept, readable, held}
 use Rattle.device.proofs.Meaning.{Shows}
-use Rattle.device.proofs.Splices.{cut-bytes}
+use Rattle.device.proofs.Bytes.{cut-bytes}
 use Rattle.battery.specs.Rows.{written}
 
 pub fills : (r bytes : List ℕ) → length r ≡ 257 → length bytes ≡ 256 → length (written r bytes) ≡ 257

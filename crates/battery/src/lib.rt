@@ -11,8 +11,8 @@ ghost use Rattle.std.proofs.Common.{rules};
 mod row;
 mod state;
 
-use answers::Fault;
 use device::{Device, PoweredDevice};
+use refusals::Fault;
 use row::Kept;
 pub use state::Battery;
 
@@ -21,7 +21,7 @@ impl Device for Battery {
 
     ghost makes = { Makes };
 
-    ghost bounds = { λ d. bounded 257 held never_loose shows d.rows.image.items d.rows.left d.rows.calls d.rows.bytes };
+    ghost bounds = { λ d. bounded 257 held never_loose shows d.rows.image.items d.rows.calls_left d.rows.calls d.rows.bytes };
 
     fn size(&self) -> u32 {
         self.rows.size
@@ -41,11 +41,11 @@ impl Device for Battery {
 }
 
 impl PoweredDevice for Battery {
-    ghost most = { 4294967295 };
+    ghost most_calls = { 4294967295 };
 
     ghost limit = { Prim.search rules };
 
     fn restart(&mut self, calls: u32, _remains: &[u8]) {
-        self.rows.left = calls;
+        self.rows.calls_left = calls;
     }
 }

@@ -10,7 +10,7 @@ pub struct Battery {
 }
 
 impl Battery {
-    ghost use Rattle.device.specs.Traces.{Fixed, ReadsKeep};
+    ghost use Rattle.device.specs.Traces.{LeavesNothingOpen, ReadsKeep};
     ghost use Rattle.device.specs.Images.{blocks};
     ghost use Rattle.battery.specs.Meaning.{image_of, state_of, meaning, Makes};
 
@@ -21,8 +21,8 @@ impl Battery {
 
         // as many blocks as the image has whole rows, at most 65,535, and so many calls
         ensures size { (meaning result).size ≡ blocks 257 image.items }
-        ensures calls_left { (meaning result).left ≡ calls }
-        ensures fixed { Fixed state_of Makes }
+        ensures calls_left { (meaning result).calls_left ≡ calls }
+        ensures fixed { LeavesNothingOpen state_of Makes }
         ensures reads { ReadsKeep image_of Makes }
     {
         Battery {

@@ -1,10 +1,11 @@
 -- What an accepted deed tells of its book, and what it leaves. Assumes nothing.
 use Rattle.std.proofs.Common.{◌≡◌, ℕ, ◌+◌, ◌<◌, ◌≤◌, Bool, true, false, cond, ◌||◌, eqb, ltb, leb, List, [], ◌∷◌, Ok, Err, Result, refl, sym, ap, ◌∙◌, arith}
 use Rattle.std.proofs.lemmas.Bool.{leb-false, ltb-false, eqb-false, lt-leb, le-ltb, ne_eqb, or_parts}
-use Rattle.answers.specs.declared.Refusal.{Refusal}
-use Rattle.answers.specs.declared.Refusal.TheVariants.{NoAccount, NoItem, NoQuantity}
-use Rattle.book.specs.Holdings.{Holdings, BookKind, total, limit, Deed, keep, crediting, blocking, releasing, moving, apply}
-use Rattle.book.specs.Rulings.{Check, ◌refuses◌, first, checks, ruling, on_ok, outcome, asked, covering}
+use Rattle.refusals.specs.declared.Refusal.{Refusal}
+use Rattle.refusals.specs.declared.Refusal.TheVariants.{NoAccount, NoItem, NoQuantity}
+use Rattle.book.specs.Holdings.{Holdings, BookKind, total, limit, Deed, no_change, crediting, blocking, releasing, moving, apply}
+use Rattle.refusals.specs.Answers.{if_ok}
+use Rattle.book.specs.Rulings.{Check, ◌refuses◌, first_refusal, checks, ruling, outcome, amount_answer, covering}
 use Rattle.book.proofs.Asked.{asked-within}
 use Rattle.book.proofs.Totals.{credit-below, total-block, total-release, total-move}
 
@@ -18,14 +19,14 @@ given false true x y e = absurd cc
 given false false x y e = (refl, refl, cc)
 
 pub outcome-ok : (k : BookKind) (b : Holdings) (w : Deed) → Ok tt ≡ ruling k b w → apply b w ≡ outcome k b w
-outcome-ok k b w e = ap (λ r. on_ok r (apply b w) b) e
+outcome-ok k b w e = ap (λ r. if_ok r (apply b w) b) e
 
 -- a question that is answered lies within the book
-pub asked-ok : {X : Type 0} (k : BookKind) (f : ℕ → ℕ → X) (a i : ℕ) (x : X) → Ok x ≡ asked k f a i → (a < 64) × (i < k.items) × (x ≡ f a i)
+pub asked-ok : {X : Type 0} (k : BookKind) (f : ℕ → ℕ → X) (a i : ℕ) (x : X) → Ok x ≡ amount_answer k f a i → (a < 64) × (i < k.items) × (x ≡ f a i)
 asked-ok k f a i x e = let p = given (leb 64 a) (leb k.items i) x (f a i) e in (leb-false 64 a p.0, leb-false k.items i p.1, p.2)
 
 -- what is answered of the whole is answered of a part of it
-pub asked-part : {X Y : Type 0} (g : X → Y) (k : BookKind) (f : ℕ → ℕ → X) (a i : ℕ) (x : X) → Ok x ≡ asked k f a i → Ok (g x) ≡ asked k (λ a i. g (f a i)) a i
+pub asked-part : {X Y : Type 0} (g : X → Y) (k : BookKind) (f : ℕ → ℕ → X) (a i : ℕ) (x : X) → Ok x ≡ amount_answer k f a i → Ok (g x) ≡ amount_answer k (λ a i. g (f a i)) a i
 asked-part g k f a i x e =
     let p = asked-ok k f a i x e in
     ap (λ y. Ok (g y)) p.2 ∙ sym (asked-within k (λ a i. g (f a i)) a i p.0 p.1)
@@ -42,9 +43,9 @@ abbrev pub Clear : List Check → Type 0
 Clear [] = Unit {0}
 Clear (c ∷ cs) = (c.fails ≡ false) × Clear cs
 
-pub clear : (cs : List Check) → Ok tt ≡ first cs → Clear cs
+pub clear : (cs : List Check) → Ok tt ≡ first_refusal cs → Clear cs
 clear [] e = tt
-clear (c ∷ cs) e = let p = pass c.fails c.refusal (first cs) e in (p.0, clear cs p.1)
+clear (c ∷ cs) e = let p = pass c.fails c.refusal (first_refusal cs) e in (p.0, clear cs p.1)
 
 twice : (t : Bool) → (t || t) ≡ t
 twice true = refl
@@ -84,7 +85,7 @@ module _ (k : BookKind) (b : Holdings) where
 
   -- no accepted deed takes an item's total past its limit
   pub stays-within : (w : Deed) → Ok tt ≡ ruling k b w → ((i : ℕ) → total b i ≤ limit k b i) → (i : ℕ) → total (apply b w) i ≤ limit k (apply b w) i
-  stays-within keep e h i = h i
+  stays-within no_change e h i = h i
   stays-within (crediting A I q) e h i = let f = credit-fits A I q e in credit-below b A I q i k.ceiling f.0 f.3 (h i)
   stays-within (blocking A I q) e h i = omega (arith, total-block b A I q i (block-fits A I q e).3, h i)
   stays-within (releasing A I q) e h i = omega (arith, total-release b A I q i (release-fits A I q e).3, h i)
@@ -92,7 +93,7 @@ module _ (k : BookKind) (b : Holdings) where
 
   -- a release is a transfer of an account to itself
   pub ruling-self : (A I q : ℕ) → ruling k b (moving A A I q) ≡ ruling k b (releasing A I q)
-  ruling-self A I q = ap (λ t. first (t refuses 21 ∷ leb k.items I refuses 22 ∷ eqb q 0 refuses 23 ∷ ltb (b.blocked A I) q refuses 26 ∷ [])) (twice (leb 64 A))
+  ruling-self A I q = ap (λ t. first_refusal (t refuses 21 ∷ leb k.items I refuses 22 ∷ eqb q 0 refuses 23 ∷ ltb (b.blocked A I) q refuses 26 ∷ [])) (twice (leb 64 A))
 
   pub outcome-self : (A I q : ℕ) → outcome k b (moving A A I q) ≡ outcome k b (releasing A I q)
-  outcome-self A I q = ap (λ r. on_ok r (apply b (releasing A I q)) b) (ruling-self A I q)
+  outcome-self A I q = ap (λ r. if_ok r (apply b (releasing A I q)) b) (ruling-self A I q)

@@ -1,11 +1,11 @@
 // A book in a box is the book in it, and moves at the cost of a pointer.
 use crate::Book;
-use answers::Refusal;
+use refusals::Refusal;
 
 impl<B: Book> Book for Box<B> {
     ghost holdings = { λ b. B.holdings b.value };
 
-    ghost fixed = { B.fixed };
+    ghost book_kind = { B.book_kind };
 
     fn clear(&mut self) {
         (**self).clear();
@@ -43,11 +43,11 @@ impl<B: Book> Book for Box<B> {
         (**self).ceiling()
     }
 
-    ghost within = { λ b. B.within b.value };
+    ghost within_limit = { λ b. B.within_limit b.value };
 
-    ghost outside = { λ b. B.outside b.value };
+    ghost nothing_outside = { λ b. B.nothing_outside b.value };
 
-    ghost narrow = { B.narrow };
+    ghost kind_fits = { B.kind_fits };
 
-    ghost useful = { B.useful };
+    ghost kind_useful = { B.kind_useful };
 }

@@ -4,11 +4,11 @@
 
 ghost use Rattle.std.specs.Prelude.{◌≡◌, ℕ, ◌^◌, ◌<◌, ◌≤◌, ◌⊎◌};
 ghost use Rattle.book.specs.Holdings.{Holdings, BookKind, nothing, limit, total, crediting, blocking, releasing, moving};
-ghost use Rattle.book.specs.Rulings.{ruling, outcome, asked, covering, holding_at, totalled};
+ghost use Rattle.book.specs.Rulings.{ruling, outcome, amount_answer, covering, holding_of, totalled};
 
 mod boxed;
 
-use answers::Refusal;
+use refusals::Refusal;
 
 // How many accounts a book has, numbered from 0.
 pub const ACCOUNTS: u16 = 64;
@@ -39,7 +39,7 @@ pub trait Book {
     ghost holdings: { Self → Holdings };
 
     // what the kind of book fixes
-    ghost fixed: { BookKind };
+    ghost book_kind: { BookKind };
 
     // All amounts become 0.
     fn clear(&mut self)
@@ -47,44 +47,44 @@ pub trait Book {
 
     // Adds to the free amount.
     fn credit(&mut self, account: u16, item: u16, quantity: u64) -> Result<(), Refusal>
-        ensures answer { result ≡ ruling fixed (holdings self.old) (crediting account item quantity) }
-        ensures after { holdings self.new ≡ outcome fixed (holdings self.old) (crediting account item quantity) };
+        ensures answer { result ≡ ruling book_kind (holdings self.old) (crediting account item quantity) }
+        ensures after { holdings self.new ≡ outcome book_kind (holdings self.old) (crediting account item quantity) };
 
     // From free to blocked.
     fn block(&mut self, account: u16, item: u16, quantity: u64) -> Result<(), Refusal>
-        ensures answer { result ≡ ruling fixed (holdings self.old) (blocking account item quantity) }
-        ensures after { holdings self.new ≡ outcome fixed (holdings self.old) (blocking account item quantity) };
+        ensures answer { result ≡ ruling book_kind (holdings self.old) (blocking account item quantity) }
+        ensures after { holdings self.new ≡ outcome book_kind (holdings self.old) (blocking account item quantity) };
 
     // From blocked back to free, which is a transfer of an account to itself.
     fn release(&mut self, account: u16, item: u16, quantity: u64) -> Result<(), Refusal>
-        ensures answer { result ≡ ruling fixed (holdings self.old) (releasing account item quantity) }
-        ensures after { holdings self.new ≡ outcome fixed (holdings self.old) (releasing account item quantity) }
+        ensures answer { result ≡ ruling book_kind (holdings self.old) (releasing account item quantity) }
+        ensures after { holdings self.new ≡ outcome book_kind (holdings self.old) (releasing account item quantity) }
     {
         self.transfer(account, account, item, quantity)
     }
 
     // From the blocked amount of `from` to the free amount of `to`, which may be the same account.
     fn transfer(&mut self, from: u16, to: u16, item: u16, quantity: u64) -> Result<(), Refusal>
-        ensures answer { result ≡ ruling fixed (holdings self.old) (moving from to item quantity) }
-        ensures after { holdings self.new ≡ outcome fixed (holdings self.old) (moving from to item quantity) };
+        ensures answer { result ≡ ruling book_kind (holdings self.old) (moving from to item quantity) }
+        ensures after { holdings self.new ≡ outcome book_kind (holdings self.old) (moving from to item quantity) };
 
     fn free(&self, account: u16, item: u16) -> Result<u64, Refusal>
-        ensures { result ≡ asked fixed (holdings self.now).free account item };
+        ensures { result ≡ amount_answer book_kind (holdings self.now).free account item };
 
     fn blocked(&self, account: u16, item: u16) -> Result<u64, Refusal>
-        ensures { result ≡ asked fixed (holdings self.now).blocked account item };
+        ensures { result ≡ amount_answer book_kind (holdings self.now).blocked account item };
 
     // The number of items.
     fn items(&self) -> u16
-        ensures { result ≡ fixed.items };
+        ensures { result ≡ book_kind.items };
 
     // The kind byte, and not an enum of kinds: anyone may write a book of a kind of its own.
     fn kind(&self) -> u8
-        ensures { result ≡ fixed.code };
+        ensures { result ≡ book_kind.code };
 
     // The most that an item may total.
     fn ceiling(&self) -> u64
-        ensures { result ≡ fixed.ceiling };
+        ensures { result ≡ book_kind.ceiling };
 
     // The free amount, which is 0 where the book has no such account or item.
     fn available(&self, account: u16, item: u16) -> u64
@@ -95,7 +95,7 @@ pub trait Book {
 
     // Free and blocked together.
     fn holding(&self, account: u16, item: u16) -> Result<Holding, Refusal>
-        ensures { result ≡ asked fixed (holding_at (holdings self.now)) account item }
+        ensures { result ≡ amount_answer book_kind (holding_of (holdings self.now)) account item }
     {
         let free = self.free(account, item)?;
         let blocked = self.blocked(account, item)?;
@@ -104,7 +104,7 @@ pub trait Book {
 
     // An item's amounts over all accounts.
     fn total(&self, item: u16) -> Result<u64, Refusal>
-        ensures { result ≡ totalled fixed (holdings self.now) item }
+        ensures { result ≡ totalled book_kind (holdings self.now) item }
     {
         if item >= self.items() {
             return Err(Refusal::NoItem);
@@ -120,7 +120,7 @@ pub trait Book {
 
     // What a credit would be answered, with nothing changed: there is no undoing a credit.
     fn credit_ruling(&self, account: u16, item: u16, quantity: u64) -> Result<(), Refusal>
-        ensures { result ≡ ruling fixed (holdings self.now) (crediting account item quantity) }
+        ensures { result ≡ ruling book_kind (holdings self.now) (crediting account item quantity) }
     {
         if account >= ACCOUNTS {
             return Err(Refusal::NoAccount);
@@ -136,14 +136,14 @@ pub trait Book {
     }
 
     // an item's amounts over all accounts never total more than its limit
-    ghost within: { (b : Self) (item : ℕ) → total (holdings b) item ≤ limit fixed (holdings b) item };
+    ghost within_limit: { (b : Self) (item : ℕ) → total (holdings b) item ≤ limit book_kind (holdings b) item };
 
     // an account or an item that the book has not has nothing
-    ghost outside: { (b : Self) (account item : ℕ) → (64 ≤ account) ⊎ (fixed.items ≤ item) → ((holdings b).free account item ≡ 0) × ((holdings b).blocked account item ≡ 0) };
+    ghost nothing_outside: { (b : Self) (account item : ℕ) → (64 ≤ account) ⊎ (book_kind.items ≤ item) → ((holdings b).free account item ≡ 0) × ((holdings b).blocked account item ≡ 0) };
 
     // the kind's numbers fit the types in which they are answered
-    ghost narrow: { (fixed.code < 2 ^ 8) × (fixed.items < 2 ^ 16) × (fixed.ceiling < 2 ^ 64) };
+    ghost kind_fits: { (book_kind.code < 2 ^ 8) × (book_kind.items < 2 ^ 16) × (book_kind.ceiling < 2 ^ 64) };
 
     // a book has some item, and room for it: none may refuse all
-    ghost useful: { (0 < fixed.items) × (0 < fixed.ceiling) };
+    ghost kind_useful: { (0 < book_kind.items) × (0 < book_kind.ceiling) };
 }

@@ -7,7 +7,7 @@ use Rattle.engine.specs.declared.engine.Mode.{Mode}
 use Rattle.engine.specs.declared.engine.Mode.TheVariants.{Open, Down, Refused}
 use Rattle.engine.specs.declared.slip.Contents.{Contents}
 use Rattle.engine.specs.View.{View}
-use Rattle.engine.specs.Lasting.{written_by}
+use Rattle.engine.specs.Lasting.{blocks_for_books}
 use Rattle.engine.proofs.Keeping.{Lawful}
 use Rattle.depository.specs.Moments.{Phase, running, shut, Moment}
 use Rattle.depository.specs.Tally.{Tally}
@@ -25,7 +25,7 @@ pub record Paired (pairs : ℕ) : Type 0 where
 module _ (h : Rulebook) (pairs : ℕ) (t : Tally) where
   -- the device keeps the tally
   pub record OnDevice (m : Medium) : Type 0 where
-    pub journal : Journal (written_by h pairs) m t.list t.hand
+    pub journal : Journal (blocks_for_books h pairs) m t.list t.hand
     pub lawful : Lawful h t.list t.hand
     pub size : 1 + 2 * pairs ≤ m.size
 
@@ -34,7 +34,7 @@ module _ (h : Rulebook) (pairs : ℕ) (t : Tally) where
     pub device : OnDevice v.medium
     pub runs : Runs h t.list v.standing
     pub room : v.pairs ≡ pairs
-    pub count : v.count ≡ length t.list
+    pub entry_count : v.entry_count ≡ length t.list
 
   abbrev pub KeptBy : View → Option Contents → Mode → Type 0
   KeptBy v l Open = (t.hand ≡ None) × InEngine v

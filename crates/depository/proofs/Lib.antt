@@ -5,4 +5,4 @@ pub mod Survival
 pub mod Runs
 pub mod Starts
 pub mod OneAnswer
-pub mod Fixing
+pub mod Determined

@@ -1,38 +1,38 @@
 -- The law of survival, along a path.
 use Rattle.std.proofs.Common.{◌+◌, ◌*◌, ◌≡◌, ℕ, ◌<◌, ◌≤◌, List, [], ◌∷◌, Some, None, Ok, Err, Option, sym, refl, ap, ◌∙◌, subst, arith}
 use Rattle.std.specs.Option.{option_or}
-use Rattle.answers.specs.declared.Fault.{Fault}
-use Rattle.answers.specs.Numbers.{number_of}
+use Rattle.refusals.specs.declared.Fault.{Fault}
+use Rattle.refusals.specs.Numbers.{number_of}
 use Rattle.instruction.specs.declared.Instruction.{Instruction}
 use Rattle.instruction.specs.Layout.{Fit}
 use Rattle.book.specs.Holdings.{Holdings}
 use Rattle.rulebook.specs.Terms.{Side, securities, cash}
 use Rattle.rulebook.specs.Rules.{Rulebook}
 use Rattle.rulebook.proofs.Whole.{law-of-the-ledger}
-use Rattle.device.specs.Medium.{Medium, Bounded}
+use Rattle.device.specs.Medium.{Medium, IsBounded}
 use Rattle.device.specs.Calls.{Answer}
 use Rattle.device.specs.Traces.{DeviceCall}
-use Rattle.journal.specs.Journal.{Journal, enter_answer}
+use Rattle.journal.specs.Journal.{Journal, write_entry_answer}
 use Rattle.engine.specs.declared.engine.Mode.{Mode}
 use Rattle.engine.specs.declared.engine.Mode.TheVariants.{Open, Down, Refused}
 use Rattle.engine.specs.declared.slip.Contents.{Contents}
 use Rattle.engine.specs.View.{View}
-use Rattle.engine.specs.Asking.{opening_answer, told_by}
-use Rattle.engine.specs.Instructing.{checked, LeftBy}
-use Rattle.engine.specs.Lasting.{listed, written_by}
-use Rattle.engine.specs.Opening.{opened}
+use Rattle.engine.specs.Asking.{opening_answer, contents_by_mode}
+use Rattle.engine.specs.Instructing.{check_answer, Leaves}
+use Rattle.engine.specs.Lasting.{standing_list, blocks_for_books}
+use Rattle.engine.specs.Opening.{opening_view}
 use Rattle.engine.proofs.Openings.{listed-is}
-use Rattle.depository.specs.Orders.{Order, to_instruct, to_close, to_restart, to_open, to_ask}
+use Rattle.depository.specs.Orders.{Order, instruct_order, close_order, restart_order, open_order, ask_order}
 use Rattle.depository.specs.declared.calls.Reply.{Reply}
-use Rattle.depository.specs.declared.calls.Reply.TheVariants.{Misfit, Opened as OpenedReply}
-use Rattle.depository.specs.declared.calls.Opened.{Opened}
-use Rattle.depository.specs.Slips.{latest}
-use Rattle.depository.specs.Moments.{Phase, running, shut, Moment, at}
+use Rattle.depository.specs.declared.calls.Reply.TheVariants.{Misfit, ToOpen as OpenedReply}
+use Rattle.depository.specs.declared.calls.OpenReply.{OpenReply}
+use Rattle.depository.specs.OwedSlip.{newest_known}
+use Rattle.depository.specs.Moments.{Phase, running, shut, Moment, moment_in}
 use Rattle.depository.specs.Handling.{medium_in}
-use Rattle.depository.specs.Calling.{Leads, Does, slip_answer, owed_after, opened_reply}
+use Rattle.depository.specs.Calling.{Yields, LeadsTo, slip_answer, owed_after_open, opened_reply}
 use Rattle.depository.specs.Tally.{Tally, feed, fresh, tally, tally_from}
-use Rattle.depository.specs.Paths.{Path, done, onward, closing_told, last_closing}
-use Rattle.depository.specs.Law.{Stands, Judged, TellsTally, OpenedWell, Law, Beyond}
+use Rattle.depository.specs.Paths.{Path, no_calls, first_call, closing_told, last_closing}
+use Rattle.depository.specs.Survival.{Stands, Judged, TellsTally, IsOpenAccepted, Law, Beyond}
 use Rattle.depository.proofs.Kept.{Matches, Paired, InEngine, KeptBy, KeptIn, Kept}
 use Rattle.depository.proofs.Instructed.{instructed}
 use Rattle.depository.proofs.Reopened.{closed, restarted, reopened}
@@ -56,66 +56,66 @@ or-or : {X : Type 0} (a b c : Option X) → option_or a (option_or b c) ≡ opti
 or-or None b c = refl
 or-or (Some x) b c = refl
 
-pub same-reply : {o o' : Opened} → OpenedReply o ≡ OpenedReply o' → o ≡ o'
+pub same-reply : {o o' : OpenReply} → OpenedReply o ≡ OpenedReply o' → o ≡ o'
 same-reply e = cc
 
 module _ (h : Rulebook) (most : ℕ) where
-  owes-at : (told : Option Contents) {r r₀ : Reply} {b b₀ : Moment} → Leads r r₀ b b₀ → Owes told b₀.phase b₀.owed → Owes told b.phase b.owed
-  owes-at told e o = subst (λ (n : Moment). Owes told n.phase n.owed) (sym e.leads) o
+  owes-at : (told : Option Contents) {r r₀ : Reply} {b b₀ : Moment} → Yields r r₀ b b₀ → Owes told b₀.phase b₀.owed → Owes told b.phase b.owed
+  owes-at told e o = subst (λ (n : Moment). Owes told n.phase n.owed) (sym e.moment) o
 
-  owes-left : (told : Option Contents) (c w : Answer) (x : Instruction) (v v' : View) (l : Option Contents) → LeftBy c w x v v' → OwesBy told v.mode l → OwesBy told v'.mode l
+  owes-left : (told : Option Contents) (c w : Answer) (x : Instruction) (v v' : View) (l : Option Contents) → Leaves c w x v v' → OwesBy told v.mode l → OwesBy told v'.mode l
   owes-left told (Err f) w x v v' l e o = subst (λ (z : View). OwesBy told z.mode l) (sym e) o
   owes-left told (Ok u) (Ok w) x v v' l a o = subst (λ z. OwesBy told z l) (sym a.mode) tt
   owes-left told (Ok u) (Err f) x v v' l a o = subst (λ z. OwesBy told z l) (sym a.mode) tt
 
-  owes-closed : (told : Option Contents) (m : Mode) (n : ℕ) (l : Option Contents) → OwesBy told m l → latest (told_by m n) l ≡ option_or (told_by m n) told
+  owes-closed : (told : Option Contents) (m : Mode) (n : ℕ) (l : Option Contents) → OwesBy told m l → newest_known (contents_by_mode m n) l ≡ option_or (contents_by_mode m n) told
   owes-closed told Open n l o = refl
   owes-closed told (Down x) n l o = refl
   owes-closed told (Refused f) n l o = o
 
-  owes-opened : (told : Option Contents) (m : Mode) (l : Option Contents) → l ≡ told → OwesBy told m (owed_after m l)
+  owes-opened : (told : Option Contents) (m : Mode) (l : Option Contents) → l ≡ told → OwesBy told m (owed_after_open m l)
   owes-opened told Open l o = tt
   owes-opened told (Down x) l o = tt
   owes-opened told (Refused f) l o = o
 
-  owes-next : (told : Option Contents) (a : Phase) (l : Option Contents) (c : Order) (r : Reply) (b : Moment) → Does h most (at a l) c r b → Owes told a l → Owes (option_or (closing_told a c) told) b.phase b.owed
-  owes-next told (running v) l (to_instruct x) r b d o = owes-at _ d.leads (owes-left told (checked h x v) (enter_answer v.medium v.count) x v d.after l d.engine.after o)
-  owes-next told (running v) l to_close r b d o = owes-at _ d (owes-closed told v.mode v.count l o)
-  owes-next told (running v) l (to_restart q remains) r b d o = owes-at _ d o
-  owes-next told (running v) l to_open r b d o = owes-at _ d o
-  owes-next told (running v) l (to_ask q) r b d o = owes-at _ d o
-  owes-next told (shut m books) l (to_instruct x) r b d o = owes-at _ d o
-  owes-next told (shut m books) l to_close r b d o = owes-at _ d o
-  owes-next told (shut m books) l (to_restart q remains) r b d o = owes-at _ d.leads o
-  owes-next told (shut m books) l to_open r b d o = owes-at _ d (owes-opened told (opened h m).mode l o)
-  owes-next told (shut m books) l (to_ask q) r b d o = owes-at _ d o
+  owes-next : (told : Option Contents) (a : Phase) (l : Option Contents) (c : Order) (r : Reply) (b : Moment) → LeadsTo h most (moment_in a l) c r b → Owes told a l → Owes (option_or (closing_told a c) told) b.phase b.owed
+  owes-next told (running v) l (instruct_order x) r b d o = owes-at _ d.yields (owes-left told (check_answer h x v) (write_entry_answer v.medium v.entry_count) x v d.after l d.engine.after o)
+  owes-next told (running v) l close_order r b d o = owes-at _ d (owes-closed told v.mode v.entry_count l o)
+  owes-next told (running v) l (restart_order q remains) r b d o = owes-at _ d o
+  owes-next told (running v) l open_order r b d o = owes-at _ d o
+  owes-next told (running v) l (ask_order q) r b d o = owes-at _ d o
+  owes-next told (shut m books) l (instruct_order x) r b d o = owes-at _ d o
+  owes-next told (shut m books) l close_order r b d o = owes-at _ d o
+  owes-next told (shut m books) l (restart_order q remains) r b d o = owes-at _ d.yields o
+  owes-next told (shut m books) l open_order r b d o = owes-at _ d (owes-opened told (opening_view h m).mode l o)
+  owes-next told (shut m books) l (ask_order q) r b d o = owes-at _ d o
 
   -- what is owed where a path ends
   owes-along : {D : Type 0} {makes : D → DeviceCall → D → Type 0} {means : D → Medium} {a b : Moment} {d e : D} {cs : List Order} {rs : List Reply} (told : Option Contents) (q : Path makes means h most a d cs rs b e) → Owes told a.phase a.owed
       → Owes (option_or (last_closing q) told) b.phase b.owed
   unfolding last_closing
-  owes-along told (done is) o = o
-  owes-along told (onward {a = a} {m = m} {b = b} {c = c} {r = r} s q) o =
+  owes-along told (no_calls is) o = o
+  owes-along told (first_call {a = a} {m = m} {b = b} {c = c} {r = r} s q) o =
       subst (λ u. Owes u b.phase b.owed) (or-or (last_closing q) (closing_told a.phase c) told)
       (owes-along (option_or (closing_told a.phase c) told) q (owes-next told a.phase a.owed c r m s.does o))
 
-module _ (h : Rulebook) (most pairs : ℕ) (p : Paired pairs) (c₁ : (h.kind securities).code < 256) (c₂ : (h.kind cash).code < 256) where
-  by-leads : (t : Tally) (c : Order) {r r₀ : Reply} {b b₀ : Moment} → Leads r r₀ b b₀ → Kept h pairs (feed t c r₀) b₀ → Kept h pairs (feed t c r) b
-  by-leads t c {r} {r₀} {b} {b₀} e k = subst (λ s. Kept h pairs (feed t c s) b) (sym e.answer) (subst (λ n. Kept h pairs (feed t c r₀) n) (sym e.leads) k)
+module _ (h : Rulebook) (most pairs : ℕ) (p : Paired pairs) (c₁ : (h.book_kind securities).code < 256) (c₂ : (h.book_kind cash).code < 256) where
+  by-leads : (t : Tally) (c : Order) {r r₀ : Reply} {b b₀ : Moment} → Yields r r₀ b b₀ → Kept h pairs (feed t c r₀) b₀ → Kept h pairs (feed t c r) b
+  by-leads t c {r} {r₀} {b} {b₀} e k = subst (λ s. Kept h pairs (feed t c s) b) (sym e.reply) (subst (λ n. Kept h pairs (feed t c r₀) n) (sym e.moment) k)
 
   -- a call keeps the tally that it is fed to
-  kept-next : (t : Tally) (a : Phase) (l : Option Contents) (c : Order) (r : Reply) (b : Moment) → Does h most (at a l) c r b → ((x : Instruction) → c ≡ to_instruct x → Fit x) → Bounded (medium_in a) → Kept h pairs t (at a l)
+  kept-next : (t : Tally) (a : Phase) (l : Option Contents) (c : Order) (r : Reply) (b : Moment) → LeadsTo h most (moment_in a l) c r b → ((x : Instruction) → c ≡ instruct_order x → Fit x) → IsBounded (medium_in a) → Kept h pairs t (moment_in a l)
       → Kept h pairs (feed t c r) b
-  kept-next t (running v) l (to_instruct x) r b d fit bounded k = by-leads t (to_instruct x) d.leads (instructed h pairs p.few t x (fit x refl) v d.after l d.answered d.engine k)
-  kept-next t (running v) l to_close r b d fit bounded k = by-leads t to_close d (closed h pairs t v l v.mode k)
-  kept-next t (running v) l (to_restart q remains) r b d fit bounded k = by-leads t (to_restart q remains) d k
-  kept-next t (running v) l to_open r b d fit bounded k = by-leads t to_open d k
-  kept-next t (running v) l (to_ask q) r b d fit bounded k = by-leads t (to_ask q) d k
-  kept-next t (shut m books) l (to_instruct x) r b d fit bounded k = by-leads t (to_instruct x) d k
-  kept-next t (shut m books) l to_close r b d fit bounded k = by-leads t to_close d k
-  kept-next t (shut m books) l (to_restart q remains) r b d fit bounded k = by-leads t (to_restart q remains) d.leads (restarted h pairs t m d.after q most d.device k.0, k.1)
-  kept-next t (shut m books) l to_open r b d fit bounded k = by-leads t to_open d (reopened h pairs t m l p c₁ c₂ bounded k.0 k.1).kept
-  kept-next t (shut m books) l (to_ask q) r b d fit bounded k = by-leads t (to_ask q) d k
+  kept-next t (running v) l (instruct_order x) r b d fit bounded k = by-leads t (instruct_order x) d.yields (instructed h pairs p.few t x (fit x refl) v d.after l d.answer d.engine k)
+  kept-next t (running v) l close_order r b d fit bounded k = by-leads t close_order d (closed h pairs t v l v.mode k)
+  kept-next t (running v) l (restart_order q remains) r b d fit bounded k = by-leads t (restart_order q remains) d k
+  kept-next t (running v) l open_order r b d fit bounded k = by-leads t open_order d k
+  kept-next t (running v) l (ask_order q) r b d fit bounded k = by-leads t (ask_order q) d k
+  kept-next t (shut m books) l (instruct_order x) r b d fit bounded k = by-leads t (instruct_order x) d k
+  kept-next t (shut m books) l close_order r b d fit bounded k = by-leads t close_order d k
+  kept-next t (shut m books) l (restart_order q remains) r b d fit bounded k = by-leads t (restart_order q remains) d.yields (restarted h pairs t m d.after q most d.device k.0, k.1)
+  kept-next t (shut m books) l open_order r b d fit bounded k = by-leads t open_order d (reopened h pairs t m l p c₁ c₂ bounded k.0 k.1).kept
+  kept-next t (shut m books) l (ask_order q) r b d fit bounded k = by-leads t (ask_order q) d k
 
   tally-none : (t : Tally) (rs : List Reply) → tally_from t [] rs ≡ t
   unfolding tally_from
@@ -136,17 +136,17 @@ module _ (h : Rulebook) (most pairs : ℕ) (p : Paired pairs) (c₁ : (h.kind se
 
   stands : (t : Tally) (v : View) → InEngine h pairs t v → Stands h t.list v
   stands t v k = record {
-    list = ap (listed v.medium) k.count ∙ listed-is h pairs k.device.journal;
+    list = ap (standing_list v.medium) k.entry_count ∙ listed-is h pairs k.device.journal;
     runs = k.runs;
     said = law-of-the-ledger h t.list v.standing k.runs;
   }
 
-  journal-by : (t : Tally) (v : View) (l : Option Contents) (m : Mode) → KeptBy h pairs t v l m → Journal (written_by h pairs) v.medium t.list t.hand
+  journal-by : (t : Tally) (v : View) (l : Option Contents) (m : Mode) → KeptBy h pairs t v l m → Journal (blocks_for_books h pairs) v.medium t.list t.hand
   journal-by t v l Open k = k.1.device.journal
   journal-by t v l (Down x) k = k.1.device.journal
   journal-by t v l (Refused f) k = k.0.journal
 
-  journal-in : (t : Tally) (a : Phase) (l : Option Contents) → KeptIn h pairs t a l → Journal (written_by h pairs) (medium_in a) t.list t.hand
+  journal-in : (t : Tally) (a : Phase) (l : Option Contents) → KeptIn h pairs t a l → Journal (blocks_for_books h pairs) (medium_in a) t.list t.hand
   journal-in t (running v) l k = journal-by t v l v.mode k
   journal-in t (shut m books) l k = k.0.journal
 
@@ -173,53 +173,53 @@ module _ (h : Rulebook) (most pairs : ℕ) (p : Paired pairs) (c₁ : (h.kind se
   slip-in t told (shut n others) l k o m books e = subst (λ u. TellsTally u t) o (tells t l k.1)
 
   -- the open that comes next
-  well : (m : Medium) (l : Option Contents) (r : Reply) → opening_answer (opened h m).mode ≡ Ok tt → r ≡ opened_reply (opened h m) l → OpenedWell r
-  well m l r e is = (record { answer = opening_answer (opened h m).mode; found = (opened h m).found; presented = slip_answer (opened h m).mode (opened h m).found (opened h m).last l }, is, e)
+  well : (m : Medium) (l : Option Contents) (r : Reply) → opening_answer (opening_view h m).mode ≡ Ok tt → r ≡ opened_reply (opening_view h m) l → IsOpenAccepted r
+  well m l r e is = (record { answer = opening_answer (opening_view h m).mode; found = (opening_view h m).found; slip_answer = slip_answer (opening_view h m).mode (opening_view h m).found (opening_view h m).last_found l }, is, e)
 
   same-engine : {v w : View} → running v ≡ running w → v ≡ w
   same-engine e = cc
 
-  no-misfit : {o : Opened} → OpenedReply o ≡ Misfit → ⊥
+  no-misfit : {o : OpenReply} → OpenedReply o ≡ Misfit → ⊥
   no-misfit e = cc
 
-  enough : (t : Tally) (a : Phase) (l : Option Contents) → Kept h pairs t (at a l) → Bounded (medium_in a) → (m : Medium) (books : Side → Holdings) → a ≡ shut m books → 1 + 2 * pairs ≤ m.left
-      → (r : Reply) (z : Moment) → Does h most (at a l) to_open r z → OpenedWell r
+  enough : (t : Tally) (a : Phase) (l : Option Contents) → Kept h pairs t (moment_in a l) → IsBounded (medium_in a) → (m : Medium) (books : Side → Holdings) → a ≡ shut m books → 1 + 2 * pairs ≤ m.calls_left
+      → (r : Reply) (z : Moment) → LeadsTo h most (moment_in a l) open_order r z → IsOpenAccepted r
   enough t (running v) l k bounded m books e low r z d = absurd cc
   enough t (shut n others) l k bounded m books e low r z d =
       let same : n ≡ m = ap medium_in e in
       let o = reopened h pairs t n l p c₁ c₂ bounded k.0 k.1 in
-      well n l r (o.prompt (subst (λ (u : Medium). 1 + 2 * pairs ≤ u.left) (sym same) low)) d.answer
+      well n l r (o.prompt (subst (λ (u : Medium). 1 + 2 * pairs ≤ u.calls_left) (sym same) low)) d.reply
 
-  refused : (t : Tally) (a : Phase) (l : Option Contents) → Kept h pairs t (at a l) → Bounded (medium_in a) → (r : Reply) (z : Moment) → Does h most (at a l) to_open r z
-      → (o : Opened) (f : Fault) → r ≡ OpenedReply o → o.answer ≡ Err f → number_of f.refusal ≡ 13
-  refused t (running v) l k bounded r z d o f is e = absurd (no-misfit (sym is ∙ d.answer))
+  refused : (t : Tally) (a : Phase) (l : Option Contents) → Kept h pairs t (moment_in a l) → IsBounded (medium_in a) → (r : Reply) (z : Moment) → LeadsTo h most (moment_in a l) open_order r z
+      → (o : OpenReply) (f : Fault) → r ≡ OpenedReply o → o.answer ≡ Err f → number_of f.refusal ≡ 13
+  refused t (running v) l k bounded r z d o f is e = absurd (no-misfit (sym is ∙ d.reply))
   refused t (shut m books) l k bounded r z d o f is e =
-      let same = same-reply (sym d.answer ∙ is) in
-      (reopened h pairs t m l p c₁ c₂ bounded k.0 k.1).refused f (ap (λ (u : Opened). u.answer) same ∙ e)
+      let same = same-reply (sym d.reply ∙ is) in
+      (reopened h pairs t m l p c₁ c₂ bounded k.0 k.1).refused f (ap (λ (u : OpenReply). u.answer) same ∙ e)
 
-  verdict : (t : Tally) (told : Option Contents) (a : Phase) (l : Option Contents) → Kept h pairs t (at a l) → Owes told a l → Bounded (medium_in a) → (r : Reply) (z : Moment) → Does h most (at a l) to_open r z
-      → (o : Opened) (v : View) → r ≡ OpenedReply o → o.answer ≡ Ok tt → z.phase ≡ running v → Judged told o v
-  verdict t told (running w) l k owes bounded r z d o v is e gives = absurd (no-misfit (sym is ∙ d.answer))
+  verdict : (t : Tally) (told : Option Contents) (a : Phase) (l : Option Contents) → Kept h pairs t (moment_in a l) → Owes told a l → IsBounded (medium_in a) → (r : Reply) (z : Moment) → LeadsTo h most (moment_in a l) open_order r z
+      → (o : OpenReply) (v : View) → r ≡ OpenedReply o → o.answer ≡ Ok tt → z.phase ≡ running v → Judged told o v
+  verdict t told (running w) l k owes bounded r z d o v is e gives = absurd (no-misfit (sym is ∙ d.reply))
   verdict t told (shut m books) l k owes bounded r z d o v is e gives =
-      let same = same-reply (sym d.answer ∙ is) in
-      let engine : opened h m ≡ v = same-engine (sym (ap (λ (n : Moment). n.phase) d.leads) ∙ gives) in
-      let j = (reopened h pairs t m l p c₁ c₂ bounded k.0 k.1).judged (ap (λ (u : Opened). u.answer) same ∙ e) in
-      let j₁ = subst (λ (u : Opened). Judged l u (opened h m)) same j in
+      let same = same-reply (sym d.reply ∙ is) in
+      let engine : opening_view h m ≡ v = same-engine (sym (ap (λ (n : Moment). n.phase) d.moment) ∙ gives) in
+      let j = (reopened h pairs t m l p c₁ c₂ bounded k.0 k.1).judged (ap (λ (u : OpenReply). u.answer) same ∙ e) in
+      let j₁ = subst (λ (u : OpenReply). Judged l u (opening_view h m)) same j in
       let j₂ = subst (λ u. Judged l o u) engine j₁ in
       subst (λ u. Judged u o v) owes j₂
 
-  module _ {D : Type 0} (makes : D → DeviceCall → D → Type 0) (means : D → Medium) (bounds : (x : D) → Bounded (means x)) where
-    bounded-in : (a : Phase) (x : D) → means x ≡ medium_in a → Bounded (medium_in a)
-    bounded-in a x e = subst Bounded e (bounds x)
+  module _ {D : Type 0} (makes : D → DeviceCall → D → Type 0) (means : D → Medium) (bounds : (x : D) → IsBounded (means x)) where
+    bounded-in : (a : Phase) (x : D) → means x ≡ medium_in a → IsBounded (medium_in a)
+    bounded-in a x e = subst IsBounded e (bounds x)
 
     path-means : {a b : Moment} {d e : D} {cs : List Order} {rs : List Reply} → Path makes means h most a d cs rs b e → means e ≡ medium_in b.phase
-    path-means (done is) = is
-    path-means (onward s q) = path-means q
+    path-means (no_calls is) = is
+    path-means (first_call s q) = path-means q
 
     -- what is kept is kept along a path
     kept-along : {a b : Moment} {d e : D} {cs : List Order} {rs : List Reply} (t : Tally) → Path makes means h most a d cs rs b e → Kept h pairs t a → Kept h pairs (tally_from t cs rs) b
-    kept-along t (done {a = a} is) k = subst (λ u. Kept h pairs u a) (sym (tally-none t [])) k
-    kept-along t (onward {a = a} {m = m} {b = b} {d = d} {c = c} {r = r} {cs = cs} {rs = rs} s q) k =
+    kept-along t (no_calls {a = a} is) k = subst (λ u. Kept h pairs u a) (sym (tally-none t [])) k
+    kept-along t (first_call {a = a} {m = m} {b = b} {d = d} {c = c} {r = r} {cs = cs} {rs = rs} s q) k =
         subst (λ u. Kept h pairs u b) (sym (tally-more t c r cs rs)) (kept-along (feed t c r) q (kept-next t a.phase a.owed c r m s.does s.fit (bounded-in a.phase d s.means-it) k))
 
     module _ {a b : Moment} {d e : D} {cs : List Order} {rs : List Reply} (start : Kept h pairs fresh a) (none : Owes None a.phase a.owed) (q : Path makes means h most a d cs rs b e) where
@@ -229,7 +229,7 @@ module _ (h : Rulebook) (most pairs : ℕ) (p : Paired pairs) (c₁ : (h.kind se
       owes : Owes (last_closing q) b.phase b.owed
       owes = subst (λ u. Owes u b.phase b.owed) (or-none (last_closing q)) (owes-along h most None q none)
 
-      bounded : Bounded (medium_in b.phase)
+      bounded : IsBounded (medium_in b.phase)
       bounded = bounded-in b.phase e (path-means q)
 
       pub law : Law h most pairs cs rs (last_closing q) b

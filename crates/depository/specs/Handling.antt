@@ -2,13 +2,13 @@
 use Rattle.std.specs.Prelude.{◌≡◌}
 use Rattle.rulebook.specs.Rules.{Rulebook}
 use Rattle.device.specs.Medium.{Medium}
-use Rattle.device.specs.Traces.{DeviceCall, restarting, Traced}
+use Rattle.device.specs.Traces.{DeviceCall, restarting, IsTrace}
 use Rattle.device.specs.declared.Device as device
 use Rattle.book.specs.declared.Book as book
 use Rattle.engine.specs.Tracing.{instruct_calls, opening_calls}
 use Rattle.depository.specs.declared.condition.Condition.{Condition}
 use Rattle.depository.specs.declared.condition.Condition.TheVariants.{Running, Shut}
-use Rattle.depository.specs.Orders.{Order, to_instruct, to_restart, to_open}
+use Rattle.depository.specs.Orders.{Order, instruct_order, restart_order, open_order}
 use Rattle.depository.specs.Moments.{Phase, running, shut}
 
 -- what the device means
@@ -25,7 +25,7 @@ device_of (Shut device register cash) = device
 module _ {D : Type 0} (makes : D → DeviceCall → D → Type 0) (h : Rulebook) where
   -- the calls of an instruction, those of an opening, a restart; all else leaves the device
   abbrev pub Handled : Phase → Order → D → D → Type 0
-  Handled (running v) (to_instruct x) d e = Traced makes (instruct_calls h x v) d e
-  Handled (shut m books) (to_restart q remains) d e = makes d (restarting q remains) e
-  Handled (shut m books) to_open d e = Traced makes (opening_calls h m) d e
+  Handled (running v) (instruct_order x) d e = IsTrace makes (instruct_calls h x v) d e
+  Handled (shut m books) (restart_order q remains) d e = makes d (restarting q remains) e
+  Handled (shut m books) open_order d e = IsTrace makes (opening_calls h m) d e
   Handled a c d e = e ≡ d

@@ -1,8 +1,8 @@
 pub mod Orders
-pub mod Slips
+pub mod OwedSlip
 pub mod Moments
 pub mod Calling
 pub mod Tally
 pub mod Handling
 pub mod Paths
-pub mod Law
+pub mod Survival

@@ -6,16 +6,16 @@ use Rattle.depository.specs.declared.calls.Call.{Call}
 use Rattle.depository.specs.declared.calls.Call.TheVariants.{Instruct, Close, Restart, Open, Ask}
 
 pub data Order : Type 0 where
-  to_instruct : Instruction → Order
-  to_close : Order
+  instruct_order : Instruction → Order
+  close_order : Order
   -- the number and the remains that a restart gets
-  to_restart : ℕ → List ℕ → Order
-  to_open : Order
-  to_ask : Question → Order
+  restart_order : ℕ → List ℕ → Order
+  open_order : Order
+  ask_order : Question → Order
 
 abbrev pub order : Call → Order
-order (Instruct x) = to_instruct x
-order Close = to_close
-order (Restart q remains) = to_restart q remains.now
-order Open = to_open
-order (Ask q) = to_ask q
+order (Instruct x) = instruct_order x
+order Close = close_order
+order (Restart q remains) = restart_order q remains.now
+order Open = open_order
+order (Ask q) = ask_order q

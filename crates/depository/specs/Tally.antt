@@ -1,14 +1,14 @@
 -- The tally of a depository: a list, and what is in hand, fed nothing but calls and their answers.
 use Rattle.std.specs.Prelude.{List, [], ◌∷◌, ◌++◌, Some, None, Ok, Err, Option, Result, ◌==◌, if◌then◌else◌}
-use Rattle.answers.specs.declared.Refusal.{Refusal}
-use Rattle.answers.specs.Numbers.{number_of}
+use Rattle.refusals.specs.declared.Refusal.{Refusal}
+use Rattle.refusals.specs.Numbers.{number_of}
 use Rattle.instruction.specs.declared.Instruction.{Instruction}
 use Rattle.device.specs.Calls.{Answer}
 use Rattle.engine.specs.declared.slip.Verdict.{Verdict}
-use Rattle.engine.specs.Slips.{presented_number}
-use Rattle.depository.specs.Orders.{Order, to_instruct, to_open}
+use Rattle.engine.specs.ClosingSlip.{presented_number}
+use Rattle.depository.specs.Orders.{Order, instruct_order, open_order}
 use Rattle.depository.specs.declared.calls.Reply.{Reply}
-use Rattle.depository.specs.declared.calls.Reply.TheVariants.{Instructed, Opened}
+use Rattle.depository.specs.declared.calls.Reply.TheVariants.{ToInstruct, ToOpen}
 
 pub record Tally : Type 0 where
   pub list : List Instruction
@@ -39,8 +39,8 @@ fed_opening t (Ok u) (Some verdict) =
 
 -- all else changes nothing
 abbrev pub feed : Tally → Order → Reply → Tally
-feed t (to_instruct x) (Instructed a) = fed_instruction t x a
-feed t to_open (Opened o) = fed_opening t o.answer o.presented
+feed t (instruct_order x) (ToInstruct a) = fed_instruction t x a
+feed t open_order (ToOpen o) = fed_opening t o.answer o.slip_answer
 feed t c r = t
 
 -- the calls with their answers, in order

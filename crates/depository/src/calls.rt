@@ -1,8 +1,8 @@
 // What a depository is asked, and what it answers.
-use answers::{Fault, Refusal};
 use book::Holding;
 use engine::Verdict;
 use instruction::Instruction;
+use refusals::{Fault, Refusal};
 use rulebook::State;
 
 // What is asked of an engine, which alters nothing.
@@ -26,7 +26,7 @@ pub enum Fact {
 pub enum Call<'a> {
     Instruct(Instruction),
     Close,
-    Restart { calls: u32, remains: &'a [u8] },
+    Restart { calls_left: u32, remains: &'a [u8] },
     Open,
     Ask(Question),
 }
@@ -34,19 +34,19 @@ pub enum Call<'a> {
 // What an open is answered: by the engine, with the entries that it found, and by the slip that is
 // owed, if there is one, which is presented to it.
 #[derive(Clone, Copy)]
-pub struct Opened {
+pub struct OpenReply {
     pub answer: Result<(), Fault>,
     pub found: u32,
-    pub presented: Option<Result<Verdict, Refusal>>,
+    pub slip_answer: Option<Result<Verdict, Refusal>>,
 }
 
 #[derive(Clone, Copy)]
 pub enum Reply {
     // a close or a restart, which never refuse
     Done,
-    Instructed(Result<(), Fault>),
-    Opened(Opened),
-    Told(Result<Fact, Refusal>),
+    ToInstruct(Result<(), Fault>),
+    ToOpen(OpenReply),
+    ToAsk(Result<Fact, Refusal>),
     // the call does not fit: it wants an engine where there is none, or a device that an engine has
     Misfit,
 }

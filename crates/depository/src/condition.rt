@@ -1,5 +1,5 @@
 // What a depository consists of.
-ghost use Rattle.depository.specs.Slips.{Known};
+ghost use Rattle.depository.specs.OwedSlip.{Known};
 
 use book::Book;
 use device::{Device, PoweredDevice};

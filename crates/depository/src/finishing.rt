@@ -1,6 +1,6 @@
 // The end of a depository: what it owes is filed.
 ghost use Rattle.std.specs.Prelude.{◌≡◌};
-ghost use Rattle.depository.specs.Slips.{owed_contents};
+ghost use Rattle.depository.specs.OwedSlip.{owed_contents};
 
 use crate::condition::{Condition, Depository};
 use book::Book;

@@ -9,7 +9,7 @@ mod slips;
 mod steps;
 mod stop;
 
-pub use calls::{Call, Fact, Opened, Question, Reply};
+pub use calls::{Call, Fact, OpenReply, Question, Reply};
 pub use condition::{Condition, Depository};
 pub use serving::serve;
 pub use stop::Stop;

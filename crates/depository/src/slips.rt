@@ -1,22 +1,22 @@
 // The slips of a depository: the last one that is not unknown is owed, and the others are filed.
 ghost use Rattle.std.specs.Prelude.{◌≡◌};
 ghost use Rattle.engine.specs.View.{view};
-ghost use Rattle.engine.specs.Slips.{contents};
-ghost use Rattle.depository.specs.Slips.{owed_contents, latest, Known};
-ghost use Rattle.depository.specs.Calling.{slip_answer, owed_after};
+ghost use Rattle.engine.specs.ClosingSlip.{contents};
+ghost use Rattle.depository.specs.OwedSlip.{owed_contents, newest_known, Known};
+ghost use Rattle.depository.specs.Calling.{slip_answer, owed_after_open};
 
-use answers::Refusal;
 use book::Book;
 use device::Device;
 use engine::{Engine, Slip, Verdict};
+use refusals::Refusal;
 
 // The slip that is owed, when one more is given.
 pub(crate) fn latest(before: Option<Slip>, given: Slip) -> Option<Slip>
     requires { Known before }
-    ensures value { owed_contents result ≡ latest (contents given) (owed_contents before) }
+    ensures value { owed_contents result ≡ newest_known (contents given) (owed_contents before) }
     ensures known { Known result }
 {
-    if !given.known() {
+    if !given.is_known() {
         let _ = given.file();
         return before;
     }
@@ -33,9 +33,9 @@ pub(crate) fn present<D: Device, R: Book, C: Book>(
 ) -> (Option<Result<Verdict, Refusal>>, Option<Slip>)
     requires { Known owed }
     ensures answer { let v = view D.medium engine.now in
-        result.0 ≡ slip_answer v.mode v.found v.last (owed_contents owed) }
+        result.0 ≡ slip_answer v.mode v.found v.last_found (owed_contents owed) }
     ensures owed { owed_contents result.1
-        ≡ owed_after (view D.medium engine.now).mode (owed_contents owed) }
+        ≡ owed_after_open (view D.medium engine.now).mode (owed_contents owed) }
     ensures known { Known result.1 }
 {
     let Some(slip) = owed else {

@@ -2,29 +2,29 @@
 // and out again. A call that does not fit leaves it as it is.
 ghost use Rattle.std.specs.Prelude.{◌≡◌};
 ghost use Rattle.instruction.specs.Layout.{Fit};
-ghost use Rattle.ledger.specs.View.{rulebook};
+ghost use Rattle.ledger.specs.View.{rulebook_of};
 ghost use Rattle.engine.specs.View.{view};
-ghost use Rattle.depository.specs.Orders.{to_instruct, to_close, to_restart, to_open, to_ask, order};
+ghost use Rattle.depository.specs.Orders.{instruct_order, close_order, restart_order, open_order, ask_order, order};
 ghost use Rattle.depository.specs.Moments.{moment_of};
-ghost use Rattle.depository.specs.Calling.{told, Does};
+ghost use Rattle.depository.specs.Calling.{told, LeadsTo};
 ghost use Rattle.depository.specs.Handling.{Handled, device_of};
 ghost use Rattle.instruction.specs.declared.Instruction.{Instruction};
 
-use crate::calls::{Call, Fact, Opened, Question, Reply};
+use crate::calls::{Call, Fact, OpenReply, Question, Reply};
 use crate::condition::{Condition, Depository};
 use crate::slips::{latest, present};
-use answers::Refusal;
 use book::Book;
 use device::{Device, PoweredDevice};
 use engine::Engine;
 use instruction::Instruction;
+use refusals::Refusal;
 
 // What an engine tells of a question.
 fn told<D: Device, R: Book, C: Book>(
     engine: &Engine<D, R, C>,
     question: &Question,
 ) -> Result<Fact, Refusal>
-    ensures { result ≡ told (rulebook R.fixed C.fixed) (view D.medium engine.now) question.now }
+    ensures { result ≡ told (rulebook_of R.book_kind C.book_kind) (view D.medium engine.now) question.now }
 {
     let fact = match *question {
         Question::Securities { account, item } => Fact::Holding(engine.securities(account, item)?),
@@ -41,21 +41,21 @@ impl<D: PoweredDevice, R: Book, C: Book> Depository<D, R, C> {
     // from a call would not know it.
     pub(crate) fn instruct(&mut self, x: Instruction) -> Reply
         ensures fit { Fit x }
-        ensures does { Does (rulebook R.fixed C.fixed) D.PoweredDevice.most
-            (moment_of self.old) (to_instruct x) result (moment_of self.new) }
-        ensures device { Handled D.makes (rulebook R.fixed C.fixed) (moment_of self.old).phase
-            (to_instruct x) (device_of self.old.condition) (device_of self.new.condition) }
+        ensures does { LeadsTo (rulebook_of R.book_kind C.book_kind) D.PoweredDevice.most_calls
+            (moment_of self.old) (instruct_order x) result (moment_of self.new) }
+        ensures device { Handled D.makes (rulebook_of R.book_kind C.book_kind) (moment_of self.old).phase
+            (instruct_order x) (device_of self.old.condition) (device_of self.new.condition) }
     {
         match &mut self.condition {
-            Condition::Running(engine) => Reply::Instructed(engine.instruct(&x)),
+            Condition::Running(engine) => Reply::ToInstruct(engine.instruct(&x)),
             Condition::Shut(_, _, _) => Reply::Misfit,
         }
     }
 
     fn close(self) -> (Self, Reply)
-        ensures does { Does (rulebook R.fixed C.fixed) D.PoweredDevice.most
-            (moment_of self) to_close result.1 (moment_of result.0) }
-        ensures device { Handled D.makes (rulebook R.fixed C.fixed) (moment_of self).phase to_close
+        ensures does { LeadsTo (rulebook_of R.book_kind C.book_kind) D.PoweredDevice.most_calls
+            (moment_of self) close_order result.1 (moment_of result.0) }
+        ensures device { Handled D.makes (rulebook_of R.book_kind C.book_kind) (moment_of self).phase close_order
             (device_of self.condition) (device_of result.0.condition) }
     {
         let Depository { condition, owed } = self;
@@ -71,10 +71,10 @@ impl<D: PoweredDevice, R: Book, C: Book> Depository<D, R, C> {
     }
 
     pub(crate) fn restart(&mut self, calls: u32, remains: &[u8]) -> Reply
-        ensures does { Does (rulebook R.fixed C.fixed) D.PoweredDevice.most
-            (moment_of self.old) (to_restart calls remains.now) result (moment_of self.new) }
-        ensures device { Handled D.makes (rulebook R.fixed C.fixed) (moment_of self.old).phase
-            (to_restart calls remains.now)
+        ensures does { LeadsTo (rulebook_of R.book_kind C.book_kind) D.PoweredDevice.most_calls
+            (moment_of self.old) (restart_order calls remains.now) result (moment_of self.new) }
+        ensures device { Handled D.makes (rulebook_of R.book_kind C.book_kind) (moment_of self.old).phase
+            (restart_order calls remains.now)
             (device_of self.old.condition) (device_of self.new.condition) }
     {
         match &mut self.condition {
@@ -87,9 +87,9 @@ impl<D: PoweredDevice, R: Book, C: Book> Depository<D, R, C> {
     }
 
     fn open(self) -> (Self, Reply)
-        ensures does { Does (rulebook R.fixed C.fixed) D.PoweredDevice.most
-            (moment_of self) to_open result.1 (moment_of result.0) }
-        ensures device { Handled D.makes (rulebook R.fixed C.fixed) (moment_of self).phase to_open
+        ensures does { LeadsTo (rulebook_of R.book_kind C.book_kind) D.PoweredDevice.most_calls
+            (moment_of self) open_order result.1 (moment_of result.0) }
+        ensures device { Handled D.makes (rulebook_of R.book_kind C.book_kind) (moment_of self).phase open_order
             (device_of self.condition) (device_of result.0.condition) }
     {
         let Depository { condition, owed } = self;
@@ -100,12 +100,12 @@ impl<D: PoweredDevice, R: Book, C: Book> Depository<D, R, C> {
                 let found = engine.found();
                 let (presented, owed) = present(&engine, owed);
                 let condition = Condition::Running(engine);
-                let opened = Opened {
+                let opened = OpenReply {
                     answer,
                     found,
-                    presented,
+                    slip_answer: presented,
                 };
-                (Depository { condition, owed }, Reply::Opened(opened))
+                (Depository { condition, owed }, Reply::ToOpen(opened))
             }
             condition => (Depository { condition, owed }, Reply::Misfit),
         }
@@ -113,21 +113,21 @@ impl<D: PoweredDevice, R: Book, C: Book> Depository<D, R, C> {
 
     // A question moves nothing.
     pub(crate) fn ask(&self, question: &Question) -> Reply
-        ensures { Does (rulebook R.fixed C.fixed) D.PoweredDevice.most
-            (moment_of self.now) (to_ask question.now) result (moment_of self.now) }
+        ensures { LeadsTo (rulebook_of R.book_kind C.book_kind) D.PoweredDevice.most_calls
+            (moment_of self.now) (ask_order question.now) result (moment_of self.now) }
     {
         match &self.condition {
-            Condition::Running(engine) => Reply::Told(told(engine, question)),
+            Condition::Running(engine) => Reply::ToAsk(told(engine, question)),
             Condition::Shut(_, _, _) => Reply::Misfit,
         }
     }
 
     // Gives one call, and answers it.
     pub(crate) fn give(mut self, call: &Call<'_>) -> (Self, Reply)
-        ensures fit { (x : Instruction) → order call.now ≡ to_instruct x → Fit x }
-        ensures does { Does (rulebook R.fixed C.fixed) D.PoweredDevice.most
+        ensures fit { (x : Instruction) → order call.now ≡ instruct_order x → Fit x }
+        ensures does { LeadsTo (rulebook_of R.book_kind C.book_kind) D.PoweredDevice.most_calls
             (moment_of self) (order call.now) result.1 (moment_of result.0) }
-        ensures device { Handled D.makes (rulebook R.fixed C.fixed) (moment_of self).phase
+        ensures device { Handled D.makes (rulebook_of R.book_kind C.book_kind) (moment_of self).phase
             (order call.now) (device_of self.condition) (device_of result.0.condition) }
     {
         match call {
@@ -136,8 +136,11 @@ impl<D: PoweredDevice, R: Book, C: Book> Depository<D, R, C> {
                 (self, reply)
             }
             Call::Close => self.close(),
-            Call::Restart { calls, remains } => {
-                let reply = self.restart(*calls, remains);
+            Call::Restart {
+                calls_left,
+                remains,
+            } => {
+                let reply = self.restart(*calls_left, remains);
                 (self, reply)
             }
             Call::Open => self.open(),

@@ -2,13 +2,13 @@
 ghost use Rattle.std.specs.Prelude.{◌≡◌};
 ghost use Rattle.depository.specs.declared.stop.Stop.TheVariants.{NoMemory};
 
-use answers::Fault;
+use refusals::Fault;
 use std::alloc::AllocError;
 
 #[derive(Clone, Copy)]
 pub enum Stop {
     // what was to be done first is refused, as the format of the device
-    Refused(Fault),
+    ByFault(Fault),
     NoMemory(AllocError),
 }
 

@@ -1,9 +1,9 @@
 -- What an answer tells, and how a read's promise is made from what the block holds.
 use Rattle.std.proofs.Common.{◌≡◌, ℕ, ◌<◌, eqb, List, length, Ok, Err, sym, refl, ap, ◌∙◌, inl, inr, arith}
 use Rattle.std.proofs.lemmas.Bool.{cond-true, cond-false, lt-leb, eq-eqb, eqb-true, eqb-false, cases_Bool}
-use Rattle.answers.specs.declared.Refusal.TheVariants.{NoCalls}
-use Rattle.answers.specs.declared.Fault.{Fault}
-use Rattle.answers.specs.Faults.{plain, at_block}
+use Rattle.refusals.specs.declared.Refusal.TheVariants.{NoCalls}
+use Rattle.refusals.specs.declared.Fault.{Fault}
+use Rattle.refusals.specs.Faults.{plain, at_block}
 use Rattle.device.specs.Medium.{Medium}
 use Rattle.device.specs.Calls.{Answer, admitted, and_then, Write, Sync}
 
@@ -34,29 +34,29 @@ refused size left b n e h l w =
     ]
 
 -- What a caller learns of its device: the record shows its media, so they need not be written.
-pub write-passed : {m m' : Medium} {b : ℕ} {bytes : List ℕ} → Write m m' b bytes (Ok tt) → Passed m.size m.left b (length bytes)
-write-passed {m} {m'} {b} {bytes} w = passed m.size m.left b (length bytes) (sym w.answer)
+pub write-passed : {m m' : Medium} {b : ℕ} {bytes : List ℕ} → Write m m' b bytes (Ok tt) → Passed m.size m.calls_left b (length bytes)
+write-passed {m} {m'} {b} {bytes} w = passed m.size m.calls_left b (length bytes) (sym w.answer)
 
-pub write-refused : {m m' : Medium} {b : ℕ} {bytes : List ℕ} {e : Fault} → Write m m' b bytes (Err e) → b < m.size → length bytes ≡ 256 → (e ≡ at_block NoCalls b) × (m.left ≡ 0)
-write-refused {m} {m'} {b} {bytes} {e} w l full = refused m.size m.left b (length bytes) e w.answer l full
+pub write-refused : {m m' : Medium} {b : ℕ} {bytes : List ℕ} {e : Fault} → Write m m' b bytes (Err e) → b < m.size → length bytes ≡ 256 → (e ≡ at_block NoCalls b) × (m.calls_left ≡ 0)
+write-refused {m} {m'} {b} {bytes} {e} w l full = refused m.size m.calls_left b (length bytes) e w.answer l full
 
-pub sync-passed : {m m' : Medium} → Sync m m' (Ok tt) → 0 < m.left
+pub sync-passed : {m m' : Medium} → Sync m m' (Ok tt) → 0 < m.calls_left
 sync-passed {m} {m'} s =
-    elim (cases_Bool (eqb m.left 0)) [
+    elim (cases_Bool (eqb m.calls_left 0)) [
       | inl t ↦
-          let q : Ok tt ≡ Err (plain NoCalls) = s.answer ∙ cond-true (eqb m.left 0) _ _ t in
+          let q : Ok tt ≡ Err (plain NoCalls) = s.answer ∙ cond-true (eqb m.calls_left 0) _ _ t in
           absurd cc
-      | inr f ↦ let n = eqb-false m.left 0 f in omega arith
+      | inr f ↦ let n = eqb-false m.calls_left 0 f in omega arith
     ]
 
-pub sync-refused : {m m' : Medium} {e : Fault} → Sync m m' (Err e) → (e ≡ plain NoCalls) × (m.left ≡ 0)
+pub sync-refused : {m m' : Medium} {e : Fault} → Sync m m' (Err e) → (e ≡ plain NoCalls) × (m.calls_left ≡ 0)
 sync-refused {m} {m'} {e} s =
-    elim (cases_Bool (eqb m.left 0)) [
+    elim (cases_Bool (eqb m.calls_left 0)) [
       | inl t ↦
-          let q : Err e ≡ Err (plain NoCalls) = s.answer ∙ cond-true (eqb m.left 0) _ _ t in
-          (cc, eqb-true m.left 0 t)
+          let q : Err e ≡ Err (plain NoCalls) = s.answer ∙ cond-true (eqb m.calls_left 0) _ _ t in
+          (cc, eqb-true m.calls_left 0 t)
       | inr f ↦
-          let q : Err e ≡ Ok tt = s.answer ∙ cond-false (eqb m.left 0) _ _ f in
+          let q : Err e ≡ Ok tt = s.answer ∙ cond-false (eqb m.calls_left 0) _ _ f in
           absurd cc
     ]
 

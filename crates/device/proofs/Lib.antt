@@ -1,3 +1,4 @@
+pub mod Bytes
 pub mod Splices
 pub mod Answered
 pub mod Rows

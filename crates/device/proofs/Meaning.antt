@@ -1,12 +1,12 @@
 -- What an image means, row by row.
 use Rattle.std.proofs.Common.{◌≡◌, ℕ, ◌-◌, ◌*◌, ◌^◌, ◌<◌, ◌≤◌, Bool, false, ltb, List, length, Some, None, Ok, Option, sym, refl, ap, ◌∙◌, inl, inr, arith}
 use Rattle.std.proofs.lemmas.Bool.{lt-ltb, le-ltb, ltb-true, cases_Bool, cases_lt, cond-true, cond-false}
-use Rattle.device.specs.Medium.{Bounded}
+use Rattle.device.specs.Medium.{IsBounded}
 use Rattle.device.specs.Calls.{admitted, Elsewhere, Write}
 use Rattle.device.specs.Bytes.{Bytes}
 use Rattle.device.specs.Images.{blocks, row, put, of_row, imaged}
 use Rattle.device.proofs.Answered.{passed}
-use Rattle.device.proofs.Splices.{cut-bytes}
+use Rattle.device.proofs.Bytes.{cut-bytes}
 use Rattle.device.proofs.Rows.{room, same-blocks, put-length, row-same, row-other, row-whole}
 
 module _ {A : Type 0} (w : ℕ) (f : List ℕ → A) (none : A) where
@@ -36,7 +36,7 @@ abbrev pub Shows : ℕ → (List ℕ → Option (List ℕ)) → Type 0
 Shows w shown = (r x : List ℕ) → length r ≡ w → Bytes r → shown r ≡ Some x → (length x ≡ 256) × Bytes x
 
 module _ (w : ℕ) (shown : List ℕ → Option (List ℕ)) (is_loose : List ℕ → Bool) where
-  pub bounded : Shows w shown → (image : List ℕ) (left : ℕ) → left < 2 ^ 32 → Bytes image → Bounded (imaged w shown is_loose image left)
+  pub bounded : Shows w shown → (image : List ℕ) (left : ℕ) → left < 2 ^ 32 → Bytes image → IsBounded (imaged w shown is_loose image left)
   bounded shows image left few bytes =
       let block : (b : ℕ) (x : List ℕ) → of_row w shown None image b ≡ Some x → (length x ≡ 256) × Bytes x =
       λ b x e.
@@ -80,7 +80,7 @@ module _ (w : ℕ) (shown : List ℕ → Option (List ℕ)) (is_loose : List ℕ
       let in-range = (passed (blocks w image) left b (length bytes) ok).in-range in
       record {
         answer = sym ok;
-        left = refl;
+        calls_left = refl;
         elsewhere = put-elsewhere image b r in-range full left (left - 1);
         here = put-here image b r in-range full ∙ is;
       }

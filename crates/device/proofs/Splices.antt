@@ -1,9 +1,9 @@
 -- What `splice` leaves and where.
-use Rattle.std.proofs.Common.{◌≡◌, ℕ, ◌+◌, ◌-◌, ◌<◌, ◌≤◌, ◌⊎◌, List, [], ◌∷◌, ◌++◌, length, get_or, take, drop, set, sym, refl, ap, ◌∙◌, inl, inr, append_assoc, arith, lit<, length-append, length-drop, length-take}
+use Rattle.std.proofs.Common.{◌≡◌, ℕ, ◌+◌, ◌-◌, ◌<◌, ◌≤◌, ◌⊎◌, List, [], ◌∷◌, ◌++◌, length, get_or, take, drop, set, sym, refl, ap, ◌∙◌, inl, inr, append_assoc, arith, length-append, length-drop, length-take}
 use borrow.Rule.Slice.PartMut.{put_mid}
-use Rattle.std.proofs.lemmas.List.{take_more_set, drop-drop, drop-set-lt, get_or_append_left, get_or-append_right, get_or-take, get_or-drop, get_or_past, ext_get_or}
-use Rattle.std.proofs.lemmas.Bool.{cases_lt}
+use Rattle.std.proofs.lemmas.List.{take_more_set, drop-drop, drop-set-lt, get_or_append_left, get_or-append_right, get_or-take, get_or-drop, ext_get_or}
 use Rattle.device.specs.Bytes.{Bytes, splice}
+use Rattle.device.proofs.Bytes.{cut-bytes, join-bytes, rest-bytes}
 
 module _ (xs : List ℕ) (at : ℕ) (ys : List ℕ) (fits : at + length ys ≤ length xs) where
   pub length-splice : length (splice xs at ys) ≡ length xs
@@ -52,24 +52,6 @@ module _ (xs : List ℕ) (at : ℕ) (ys : List ℕ) (fits : at + length ys ≤ l
       (λ k h.
       let i : k < length ys = omega (arith, length-cut) in
       get_or-take (length ys) _ k 0 i ∙ get_or-drop at (splice xs at ys) k 0 ∙ splice-inside k i)
-
--- bytes, cut and joined
-pub cut-bytes : (xs : List ℕ) (n o : ℕ) → Bytes xs → Bytes (take n (drop o xs))
-cut-bytes xs n o h k =
-    elim (cases_lt k n) [
-      | inl l ↦ rw (get_or-take n (drop o xs) k 0 l, get_or-drop o xs k 0) (h (o + k))
-      | inr g ↦ rw (get_or_past (take n (drop o xs)) k 0 (omega (arith, length-take n (drop o xs)))) (lit< tt)
-    ]
-
-pub join-bytes : (xs ys : List ℕ) → Bytes xs → Bytes ys → Bytes (xs ++ ys)
-join-bytes xs ys hx hy k =
-    elim (cases_lt k (length xs)) [
-      | inl l ↦ rw (get_or_append_left xs ys 0 k l) (hx k)
-      | inr g ↦ rw (get_or-append_right xs ys (length xs) k 0 refl g) (hy (k - length xs))
-    ]
-
-pub rest-bytes : (xs : List ℕ) (n : ℕ) → Bytes xs → Bytes (drop n xs)
-rest-bytes xs n h k = rw (get_or-drop n xs k 0) (h (n + k))
 
 pub splice-bytes : (xs : List ℕ) (at : ℕ) (ys : List ℕ) → Bytes xs → Bytes ys → Bytes (splice xs at ys)
 splice-bytes xs at ys hx hy =

@@ -6,23 +6,23 @@ use Rattle.std.proofs.lemmas.Fn.{FoldsTo-push}
 use Rattle.std.proofs.lemmas.List.{take-append-le, take_all}
 use Rattle.std.proofs.Math.Seq.{take-append-add}
 use Rattle.std.proofs.lemmas.List.Folds.{list_all-append}
-use Rattle.device.specs.Traces.{DeviceCall, reading, writing, syncing, restarting, Traced, is_reading, only_reads, ReadOnly, Fixed, ReadsKeep, ImageMade}
+use Rattle.device.specs.Traces.{DeviceCall, reading, writing, syncing, restarting, IsTrace, is_reading, only_reads, ReadOnly, LeavesNothingOpen, ReadsKeep, ImageMade}
 
 module _ {D : Type 0} (makes : D → DeviceCall → D → Type 0) where
-  pub traced-one : (call : DeviceCall) (d e : D) → makes d call e → Traced makes (call ∷ []) d e
+  pub traced-one : (call : DeviceCall) (d e : D) → makes d call e → IsTrace makes (call ∷ []) d e
   traced-one call d e m = (e, m, refl)
 
   -- a call more at the end
-  pub traced-last : (calls : List DeviceCall) (call : DeviceCall) (d e f : D) → Traced makes calls d e → makes e call f → Traced makes (calls ++ call ∷ []) d f
+  pub traced-last : (calls : List DeviceCall) (call : DeviceCall) (d e f : D) → IsTrace makes calls d e → makes e call f → IsTrace makes (calls ++ call ∷ []) d f
   traced-last calls call d e f t m = FoldsTo-push makes d calls e call f t m
 
   -- one chain after another
-  pub traced-append : (xs ys : List DeviceCall) (d e f : D) → Traced makes xs d e → Traced makes ys e f → Traced makes (xs ++ ys) d f
-  traced-append [] ys d e f s t = subst (λ (x : D). Traced makes ys x f) (sym s) t
+  pub traced-append : (xs ys : List DeviceCall) (d e f : D) → IsTrace makes xs d e → IsTrace makes ys e f → IsTrace makes (xs ++ ys) d f
+  traced-append [] ys d e f s t = subst (λ (x : D). IsTrace makes ys x f) (sym s) t
   traced-append (x ∷ xs) ys d e f s t = (s.0, s.1, traced-append xs ys s.0 e f s.2 t)
 
   -- Calls of which each spends one, up to the one that finds none left: all of xs were made, and then those of ys.
-  pub traced-on : (xs ys : List DeviceCall) (left left' : ℕ) (d e f : D) → left ≡ left' + length xs → Traced makes (take (left + 1) xs) d e → Traced makes (take (left' + 1) ys) e f → Traced makes (take (left + 1) (xs ++ ys)) d f
+  pub traced-on : (xs ys : List DeviceCall) (left left' : ℕ) (d e f : D) → left ≡ left' + length xs → IsTrace makes (take (left + 1) xs) d e → IsTrace makes (take (left' + 1) ys) e f → IsTrace makes (take (left + 1) (xs ++ ys)) d f
   traced-on xs ys left left' d e f spent s t =
       let all : take (left + 1) xs ≡ xs = take_all (left + 1) xs (omega arith) in
       let n : left + 1 ≡ length xs + (left' + 1) = omega arith in
@@ -30,28 +30,28 @@ module _ {D : Type 0} (makes : D → DeviceCall → D → Type 0) where
       rw both (traced-append xs (take (left' + 1) ys) d e f (rw all at s) t)
 
   -- the same where one of xs found none left
-  pub traced-off : (xs ys : List DeviceCall) (left : ℕ) (d e : D) → left < length xs → Traced makes (take (left + 1) xs) d e → Traced makes (take (left + 1) (xs ++ ys)) d e
+  pub traced-off : (xs ys : List DeviceCall) (left : ℕ) (d e : D) → left < length xs → IsTrace makes (take (left + 1) xs) d e → IsTrace makes (take (left + 1) (xs ++ ys)) d e
   traced-off xs ys left d e short t = rw (take-append-le (left + 1) xs ys (omega arith)) t
 
   -- Such calls made one by one: the first n, where there was power for n of them or these are all.
-  pub traced-lasting : (calls : List DeviceCall) (left n : ℕ) (d e : D) → n ≡ min (left + 1) (length calls) → Traced makes (take n calls) d e → Traced makes (take (left + 1) calls) d e
+  pub traced-lasting : (calls : List DeviceCall) (left n : ℕ) (d e : D) → n ≡ min (left + 1) (length calls) → IsTrace makes (take n calls) d e → IsTrace makes (take (left + 1) calls) d e
   traced-lasting calls left n d e lasts t =
       elim (cases_lt (length calls) (left + 1)) [
         | inl l ↦
             let one : take n calls ≡ calls = take_all n calls (omega arith) in
             let other : take (left + 1) calls ≡ calls = take_all (left + 1) calls (omega arith) in
-            subst (λ (cs : List DeviceCall). Traced makes cs d e) (one ∙ sym other) t
-        | inr g ↦ let same : n ≡ left + 1 = omega arith in subst (λ (k : ℕ). Traced makes (take k calls) d e) same t
+            subst (λ (cs : List DeviceCall). IsTrace makes cs d e) (one ∙ sym other) t
+        | inr g ↦ let same : n ≡ left + 1 = omega arith in subst (λ (k : ℕ). IsTrace makes (take k calls) d e) same t
       ]
 
   module _ {S : Type 0} (seen : D → S) where
     -- a kind that leaves nothing open fixes what a chain leads to
-    pub traced-fixed : Fixed seen makes → (calls : List DeviceCall) (d e d' e' : D) → Traced makes calls d d' → Traced makes calls e e' → seen d ≡ seen e → seen d' ≡ seen e'
+    pub traced-fixed : LeavesNothingOpen seen makes → (calls : List DeviceCall) (d e d' e' : D) → IsTrace makes calls d d' → IsTrace makes calls e e' → seen d ≡ seen e → seen d' ≡ seen e'
     traced-fixed fixed [] d e d' e' s t same = sym (ap seen s) ∙ same ∙ ap seen t
     traced-fixed fixed (c ∷ cs) d e d' e' s t same = traced-fixed fixed cs s.0 t.0 d' e' s.2 t.2 (fixed c d e s.0 t.0 s.1 t.1 same)
 
     -- a chain of reads leaves what a read leaves
-    pub traced-reads : ReadsKeep seen makes → (calls : List DeviceCall) → only_reads calls ≡ true → (d d' : D) → Traced makes calls d d' → seen d' ≡ seen d
+    pub traced-reads : ReadsKeep seen makes → (calls : List DeviceCall) → only_reads calls ≡ true → (d d' : D) → IsTrace makes calls d d' → seen d' ≡ seen d
     traced-reads keep [] only d d' t = sym (ap seen t)
     traced-reads keep (reading b room ∷ cs) only d d' t = traced-reads keep cs only t.0 d' t.2 ∙ keep b room d t.0 t.1
     traced-reads keep (writing b bytes ∷ cs) only d d' t = cc
@@ -78,9 +78,9 @@ module _ (w most : ℕ) (After : List ℕ → ℕ → DeviceCall → List ℕ �
   image-made call s t s' t' one two same =
       let also : ImageMade w most After s call t' = subst (λ (u : List ℕ × ℕ). ImageMade w most After u call t') (sym same) two in
       let image : s'.0 ≡ t'.0 = fixed call s.0 s.1 s'.0 t'.0 one.image also.image in
-      let left : s'.1 ≡ t'.1 = one.left ∙ sym also.left in
+      let left : s'.1 ≡ t'.1 = one.calls_left ∙ sym also.calls_left in
       let pair : List ℕ → ℕ → List ℕ × ℕ = λ xs n. (xs, n) in
       ap (λ (xs : List ℕ). pair xs s'.1) image ∙ ap (pair t'.0) left
 
-  pub image-fixed : {D : Type 0} (seen : D → List ℕ × ℕ) → Fixed seen (λ d call d'. ImageMade w most After (seen d) call (seen d'))
+  pub image-fixed : {D : Type 0} (seen : D → List ℕ × ℕ) → LeavesNothingOpen seen (λ d call d'. ImageMade w most After (seen d) call (seen d'))
   image-fixed seen call d e d' e' one two same = image-made call (seen d) (seen e) (seen d') (seen e') one two same

@@ -1,16 +1,13 @@
 -- What the calls of a device answer and change: m is the device before the call, and m' after it. Assumes nothing.
+use Rattle.refusals.specs.Answers.{if_ok}
 use Rattle.std.specs.Prelude.{◌≡◌, ℕ, ◌-◌, true, false, cond, List, length, Some, None, Ok, Err, Option, Result, ◌==◌, ◌≢◌, nat_le}
-use Rattle.answers.specs.Numbers.{number_of}
-use Rattle.answers.specs.declared.Fault.{Fault}
-use Rattle.answers.specs.Faults.{fault, fault_at}
+use Rattle.refusals.specs.Numbers.{number_of}
+use Rattle.refusals.specs.declared.Fault.{Fault}
+use Rattle.refusals.specs.Faults.{fault, fault_at}
 use Rattle.device.specs.Medium.{Medium}
 
 abbrev pub Answer : Type 0
 Answer = Result Unit Fault
-
-abbrev pub if_ok : {A : Type 0} → Answer → A → A → A
-if_ok (Ok x) a b = a
-if_ok (Err e) a b = b
 
 -- the checks that a read and a write share, in order: of size blocks and left calls, for block b and n bytes
 abbrev pub admitted : ℕ → ℕ → ℕ → ℕ → Answer
@@ -20,14 +17,14 @@ admitted size left b n =
     (Err (fault_at 12 b)))
 
 abbrev pub write_answer : Medium → ℕ → ℕ → Answer
-write_answer m b n = admitted m.size m.left b n
+write_answer m b n = admitted m.size m.calls_left b n
 
 -- the check of a sync
 abbrev pub spend_answer : ℕ → Answer
 spend_answer left = cond (left == 0) (Err (fault 13)) (Ok tt)
 
 abbrev pub sync_answer : Medium → Answer
-sync_answer m = spend_answer m.left
+sync_answer m = spend_answer m.calls_left
 
 -- what an admitted read of block b answers, by what b holds
 abbrev pub found : ℕ → Option (List ℕ) → Answer
@@ -62,7 +59,7 @@ pub record Elsewhere (m m' : Medium) (b : ℕ) : Type 0 where
 pub record Read (m m' : Medium) (b : ℕ) (old new : List ℕ) (r : Answer) : Type 0 where
   pub answer : r ≡ read_answer m b (length old)
   pub buffer : new ≡ if_ok r (filled (m.holds b) old) old
-  pub left : m'.left ≡ if_ok (write_answer m b (length old)) (m.left - 1) m.left
+  pub calls_left : m'.calls_left ≡ if_ok (write_answer m b (length old)) (m.calls_left - 1) m.calls_left
   pub same : SameBlocks m m'
 
 -- What is known of b: it holds the bytes, loose or not, if the write was accepted; it is as it was if the write was
@@ -73,7 +70,7 @@ Written (Err e) m m' b bytes = (number_of e.refusal ≢ 13) → SameBlocks m m'
 
 pub record Write (m m' : Medium) (b : ℕ) (bytes : List ℕ) (r : Answer) : Type 0 where
   pub answer : r ≡ write_answer m b (length bytes)
-  pub left : m'.left ≡ if_ok r (m.left - 1) m.left
+  pub calls_left : m'.calls_left ≡ if_ok r (m.calls_left - 1) m.calls_left
   pub elsewhere : Elsewhere m m' b
   pub here : Written r m m' b bytes
 
@@ -84,7 +81,7 @@ Synced (Err e) m m' = (k : ℕ) → m'.loose k ≡ true → m.loose k ≡ true
 
 pub record Sync (m m' : Medium) (r : Answer) : Type 0 where
   pub answer : r ≡ sync_answer m
-  pub left : m'.left ≡ if_ok r (m.left - 1) m.left
+  pub calls_left : m'.calls_left ≡ if_ok r (m.calls_left - 1) m.calls_left
   pub size : m'.size ≡ m.size
   pub holds : (k : ℕ) → m'.holds k ≡ m.holds k
   pub loose : Synced r m m'

@@ -35,7 +35,7 @@ imaged w shown is_loose image left = record {
   size = blocks w image;
   holds = of_row w shown None image;
   loose = of_row w is_loose false image;
-  left = left;
+  calls_left = left;
 }
 
 -- f at each of the first n rows, and all else as it was

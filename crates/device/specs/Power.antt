@@ -8,4 +8,4 @@ pub record Restart (m m' : Medium) (calls most : ℕ) : Type 0 where
   pub size : m'.size ≡ m.size
   pub holds : (k : ℕ) → m.loose k ≡ false → m'.holds k ≡ m.holds k
   pub loose : (k : ℕ) → m'.loose k ≡ false
-  pub left : m'.left ≡ min calls most
+  pub calls_left : m'.calls_left ≡ min calls most

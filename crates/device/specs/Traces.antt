@@ -1,7 +1,8 @@
 -- What a device goes through: calls, in order, and what its kind says of each. Assumes nothing.
 use Rattle.std.specs.Prelude.{◌≡◌, ℕ, ◌-◌, min, Bool, true, false, List, length}
 use Rattle.std.specs.List.{FoldsTo, list_all}
-use Rattle.device.specs.Calls.{if_ok, admitted, spend_answer}
+use Rattle.refusals.specs.Answers.{if_ok}
+use Rattle.device.specs.Calls.{admitted, spend_answer}
 use Rattle.device.specs.Images.{blocks}
 
 -- A call, as far as the device is concerned: a read of a block into a buffer of so many bytes, a write of bytes to a block,
@@ -13,8 +14,8 @@ pub data DeviceCall : Type 0 where
   restarting : (calls : ℕ) (remains : List ℕ) → DeviceCall
 
 -- The calls, made in order, lead from the device d to d', by what its kind says of each.
-abbrev pub Traced : {D : Type 0} → (D → DeviceCall → D → Type 0) → List DeviceCall → D → D → Type 0
-Traced makes calls d d' = FoldsTo makes d calls d'
+abbrev pub IsTrace : {D : Type 0} → (D → DeviceCall → D → Type 0) → List DeviceCall → D → D → Type 0
+IsTrace makes calls d d' = FoldsTo makes d calls d'
 
 abbrev pub is_reading : DeviceCall → Bool
 is_reading (reading block room) = true
@@ -27,11 +28,11 @@ only_reads calls = list_all is_reading calls
 
 -- The device went through reads, and nothing else.
 abbrev pub ReadOnly : {D : Type 0} → (D → DeviceCall → D → Type 0) → D → D → Type 0
-ReadOnly makes d d' = (calls : List DeviceCall) × (only_reads calls ≡ true) × Traced makes calls d d'
+ReadOnly makes d d' = (calls : List DeviceCall) × (only_reads calls ≡ true) × IsTrace makes calls d d'
 
 -- A kind that leaves nothing open: what is seen of a device before a call fixes what is seen of it afterwards.
-abbrev pub Fixed : {D S : Type 0} → (D → S) → (D → DeviceCall → D → Type 0) → Type 0
-Fixed {D} seen makes = (call : DeviceCall) (d e d' e' : D) → makes d call d' → makes e call e' → seen d ≡ seen e → seen d' ≡ seen e'
+abbrev pub LeavesNothingOpen : {D S : Type 0} → (D → S) → (D → DeviceCall → D → Type 0) → Type 0
+LeavesNothingOpen {D} seen makes = (call : DeviceCall) (d e d' e' : D) → makes d call d' → makes e call e' → seen d ≡ seen e → seen d' ≡ seen e'
 
 -- A kind by which a read changes nothing that is seen.
 abbrev pub ReadsKeep : {D S : Type 0} → (D → S) → (D → DeviceCall → D → Type 0) → Type 0
@@ -48,4 +49,4 @@ left_after most size left (restarting calls remains) = min calls most
 -- says it.
 pub record ImageMade (w most : ℕ) (After : List ℕ → ℕ → DeviceCall → List ℕ → Type 0) (s : List ℕ × ℕ) (call : DeviceCall) (s' : List ℕ × ℕ) : Type 0 where
   pub image : After s.0 s.1 call s'.0
-  pub left : s'.1 ≡ left_after most (blocks w s.0) s.1 call
+  pub calls_left : s'.1 ≡ left_after most (blocks w s.0) s.1 call

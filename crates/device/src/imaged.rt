@@ -1,15 +1,16 @@
 // A device over an image, in rows of one width: what every such device does alike.
 ghost use Rattle.std.specs.Prelude.{◌≡◌, ℕ, ◌-◌, ◌^◌, ◌<◌, ◌≤◌, Bool, List, length, Some, None, Option, IsSome, IsNone, MatchOption, ◌↔◌};
 ghost use Rattle.device.specs.Bytes.{Bytes};
-ghost use Rattle.device.specs.Calls.{Read, Write, if_ok, spend_answer};
+ghost use Rattle.refusals.specs.Answers.{if_ok};
+ghost use Rattle.device.specs.Calls.{Read, Write, spend_answer};
 ghost use Rattle.device.specs.Images.{blocks, held, imaged, put, row};
 
-use crate::BLOCK;
+use crate::BLOCK_SIZE;
 use crate::images::{admit, whole_blocks};
-use answers::{Fault, Refusal};
+use refusals::{Fault, Refusal};
 
 // What a row of some width holds, and what a write makes of it.
-pub trait Layout<const ROW: usize> {
+pub trait RowFormat<const ROW: usize> {
     ghost shown: { List ℕ → Option (List ℕ) };
 
     ghost is_loose: { List ℕ → Bool };
@@ -17,11 +18,11 @@ pub trait Layout<const ROW: usize> {
     ghost written: { List ℕ → List ℕ → List ℕ };
 
     // The bytes that the row reads as, if it is readable.
-    fn show(row: &[u8; ROW]) -> Option<&[u8; BLOCK]>
+    fn show(row: &[u8; ROW]) -> Option<&[u8; BLOCK_SIZE]>
         ensures { MatchOption result (shown row.now ≡ None) (λ bytes. shown row.now ≡ Some bytes.now) };
 
     // Puts the bytes of a block into the row.
-    fn store(row: &mut [u8; ROW], bytes: &[u8; BLOCK])
+    fn store(row: &mut [u8; ROW], bytes: &[u8; BLOCK_SIZE])
         ensures { row.new ≡ written row.old bytes.now };
 
     ghost fills: { (r bytes : List ℕ) → length r ≡ ROW → length bytes ≡ 256 → length (written r bytes) ≡ ROW };
@@ -36,15 +37,15 @@ pub struct Imaged<const ROW: usize> {
     pub image: Vec<u8>,
     // how many blocks the image has, counted once
     pub size: u32,
-    pub left: u32,
+    pub calls_left: u32,
     ghost sized: { size ≡ blocks ROW image.items },
-    ghost calls: { left < 2 ^ 32 },
+    ghost calls: { calls_left < 2 ^ 32 },
     ghost bytes: { Bytes image.items },
 }
 
 // The bytes that a row holds behind its first byte, if that says that the block is readable. A row of any width of 257 bytes
 // or more serves, and a shorter one holds nothing.
-pub fn held_bytes(row: &[u8]) -> Option<&[u8; BLOCK]>
+pub fn held_bytes(row: &[u8]) -> Option<&[u8; BLOCK_SIZE]>
     ensures value { 257 ≤ length row.now → MatchOption result (held row.now ≡ None) (λ bytes. held row.now ≡ Some bytes.now) }
     ensures short { length row.now < 257 → IsNone result }
 {
@@ -58,7 +59,7 @@ pub fn held_bytes(row: &[u8]) -> Option<&[u8; BLOCK]>
 
 // Puts the bytes of a block into a row. The row is all of the slice: a caller that lent a part of a slice as an array would
 // not know what the array left there.
-fn store_row<const ROW: usize, L: Layout<ROW>>(row: &mut [u8], bytes: &[u8; BLOCK])
+fn store_row<const ROW: usize, L: RowFormat<ROW>>(row: &mut [u8], bytes: &[u8; BLOCK_SIZE])
     requires { length row.old ≡ ROW }
     ensures { row.new ≡ L.written row.old bytes.now }
 {
@@ -69,13 +70,13 @@ impl<const ROW: usize> Imaged<ROW> {
     // An image of any length and any bytes serves: no block has what is left of it past the whole rows.
     pub fn new(image: Vec<u8>, calls: u32) -> Imaged<ROW>
         ensures image { result.image ≡ image }
-        ensures left { result.left ≡ calls }
+        ensures calls_left { result.calls_left ≡ calls }
     {
         let size = whole_blocks(image.as_slice(), ROW);
         Imaged {
             image,
             size,
-            left: calls,
+            calls_left: calls,
         }
     }
 
@@ -101,10 +102,10 @@ impl<const ROW: usize> Imaged<ROW> {
     }
 
     // Makes an admitted block's row hold the bytes.
-    fn store<L: Layout<ROW>>(&mut self, block: u32, bytes: &[u8; BLOCK])
+    fn store<L: RowFormat<ROW>>(&mut self, block: u32, bytes: &[u8; BLOCK_SIZE])
         requires { block < self.old.size }
         ensures image { let xs = self.old.image.items in self.new.image.items ≡ put ROW xs block (L.written (row ROW xs block) bytes.now) }
-        ensures left { self.new.left ≡ self.old.left }
+        ensures calls_left { self.new.calls_left ≡ self.old.calls_left }
     {
         let at = ROW * block as usize;
         let image = self.image.as_mut_slice();
@@ -113,24 +114,24 @@ impl<const ROW: usize> Imaged<ROW> {
 
     // Spends a call, if one is left, on no block in particular.
     pub fn spend(&mut self) -> Result<(), Fault>
-        ensures answer { result ≡ spend_answer self.old.left }
-        ensures left { self.new.left ≡ if_ok result (self.old.left - 1) self.old.left }
+        ensures answer { result ≡ spend_answer self.old.calls_left }
+        ensures calls_left { self.new.calls_left ≡ if_ok result (self.old.calls_left - 1) self.old.calls_left }
         ensures image { self.new.image ≡ self.old.image }
     {
-        if self.left == 0 {
+        if self.calls_left == 0 {
             return Err(Refusal::NoCalls.into());
         }
-        self.left -= 1;
+        self.calls_left -= 1;
         Ok(())
     }
 
     // Reads a block, as the layout shows its row.
-    pub fn read<L: Layout<ROW>>(&mut self, block: u32, buffer: &mut [u8]) -> Result<(), Fault>
-        ensures call { let means = imaged ROW L.shown L.is_loose in Read (means self.old.image.items self.old.left) (means self.new.image.items self.new.left) block buffer.old buffer.new result }
+    pub fn read<L: RowFormat<ROW>>(&mut self, block: u32, buffer: &mut [u8]) -> Result<(), Fault>
+        ensures call { let means = imaged ROW L.shown L.is_loose in Read (means self.old.image.items self.old.calls_left) (means self.new.image.items self.new.calls_left) block buffer.old buffer.new result }
         ensures image { self.new.image ≡ self.old.image }
     {
-        admit(self.size, self.left, block, buffer.len())?;
-        self.left -= 1;
+        admit(self.size, self.calls_left, block, buffer.len())?;
+        self.calls_left -= 1;
         let Some(bytes) = L::show(self.row_at(block)) else {
             return Err(Fault::at_block(Refusal::Unreadable, block));
         };
@@ -139,12 +140,12 @@ impl<const ROW: usize> Imaged<ROW> {
     }
 
     // Writes a block, as the layout stores it in its row.
-    pub fn write<L: Layout<ROW>>(&mut self, block: u32, bytes: &[u8]) -> Result<(), Fault>
-        ensures call { let means = imaged ROW L.shown L.is_loose in Write (means self.old.image.items self.old.left) (means self.new.image.items self.new.left) block bytes.now result }
+    pub fn write<L: RowFormat<ROW>>(&mut self, block: u32, bytes: &[u8]) -> Result<(), Fault>
+        ensures call { let means = imaged ROW L.shown L.is_loose in Write (means self.old.image.items self.old.calls_left) (means self.new.image.items self.new.calls_left) block bytes.now result }
         ensures image { let xs = self.old.image.items in self.new.image.items ≡ if_ok result (put ROW xs block (L.written (row ROW xs block) bytes.now)) xs }
     {
-        admit(self.size, self.left, block, bytes.len())?;
-        self.left -= 1;
+        admit(self.size, self.calls_left, block, bytes.len())?;
+        self.calls_left -= 1;
         self.store::<L>(block, bytes.as_array().unwrap());
         Ok(())
     }

@@ -4,11 +4,8 @@ ghost use Rattle.device.specs.Bytes.{Bytes};
 ghost use Rattle.device.specs.Calls.{admitted};
 ghost use Rattle.device.specs.Images.{blocks};
 
-use crate::BLOCK;
-use answers::{Fault, Refusal};
-
-// As many blocks as a device may have.
-const MOST_BLOCKS: usize = 65535;
+use crate::{BLOCK_SIZE, MOST_BLOCKS};
+use refusals::{Fault, Refusal};
 
 // How many blocks an image has, in rows of a width: its whole rows, at most 65,535. That the image holds bytes is said too,
 // since a device made from it has to show that its blocks do.
@@ -27,7 +24,7 @@ pub fn admit(size: u32, left: u32, block: u32, length: usize) -> Result<(), Faul
     if block >= size {
         return Err(Fault::at_block(Refusal::NoBlock, block));
     }
-    if length != BLOCK {
+    if length != BLOCK_SIZE {
         return Err(Fault::at_block(Refusal::NotABlock, block));
     }
     if left == 0 {

@@ -3,19 +3,22 @@
 #![tactic(auto)]
 
 ghost use Rattle.std.specs.Prelude.{◌≡◌, ℕ, ◌^◌, ◌<◌, min, false, length};
-ghost use Rattle.device.specs.Medium.{Medium, Bounded};
+ghost use Rattle.device.specs.Medium.{Medium, IsBounded};
 ghost use Rattle.device.specs.Calls.{Read, Write, Sync};
 ghost use Rattle.device.specs.Traces.{DeviceCall, reading, writing, syncing, restarting};
 
 mod imaged;
 mod images;
 
-use answers::Fault;
-pub use imaged::{Imaged, Layout, held_bytes};
+pub use imaged::{Imaged, RowFormat, held_bytes};
 pub use images::{admit, whole_blocks};
+use refusals::Fault;
 
 // How many bytes a block has.
-pub const BLOCK: usize = 256;
+pub const BLOCK_SIZE: usize = 256;
+
+// As many blocks as a device may have.
+pub const MOST_BLOCKS: usize = 65535;
 
 // Blocks of 256 bytes that are read, written and synced, one call at a time, while calls are left.
 pub trait Device {
@@ -40,13 +43,13 @@ pub trait Device {
         ensures call { Sync (medium self.old) (medium self.new) result }
         ensures kind { makes self.old syncing self.new };
 
-    ghost bounds: { (d : Self) → Bounded (medium d) };
+    ghost bounds: { (d : Self) → IsBounded (medium d) };
 }
 
 // A device that can lose its power and be restarted. Its kind fixes the largest number of calls that a
 // restart gives.
 pub trait PoweredDevice: Device {
-    ghost most: { ℕ };
+    ghost most_calls: { ℕ };
 
     // Restarts the device, and never refuses. The bytes of `remains` matter to loose blocks alone: what
     // a loose block holds afterwards is for the kind to say, by `makes`, and may be its old bytes, its
@@ -61,8 +64,8 @@ pub trait PoweredDevice: Device {
         ensures loose_set { (k : ℕ) → (Self.Device.medium self.new).loose k ≡ false }
 
         // the number asked for, or the kind's largest if that is smaller
-        ensures calls_left { (Self.Device.medium self.new).left ≡ min calls most }
+        ensures calls_left { (Self.Device.medium self.new).calls_left ≡ min calls most_calls }
         ensures kind { Self.makes self.old (restarting calls remains.now) self.new };
 
-    ghost limit: { most < 2 ^ 32 };
+    ghost limit: { most_calls < 2 ^ 32 };
 }

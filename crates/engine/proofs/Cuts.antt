@@ -1,26 +1,26 @@
 -- An answer of 13 to an instruction: no check gives it, and the writing of an entry gives no other refusal.
 use Rattle.std.proofs.Common.{◌≡◌, ℕ, zero, suc, ◌<◌, leb, Bool, true, false, cond, not, ◌&&◌, eqb, List, [], ◌∷◌, Some, None, Ok, Err, Option, Result, sym, refl, ap, ◌∙◌, subst, arith}
 use Rattle.std.proofs.lemmas.Bool.{and_parts, cond-false, lt-leb, eqb-true, both_ways, eq-eqb}
-use Rattle.answers.specs.declared.Refusal.{Refusal}
-use Rattle.answers.specs.declared.Refusal.TheVariants.{NoCalls, OpeningRefused, EngineDown, JournalFull}
-use Rattle.answers.specs.declared.Fault.{Fault}
-use Rattle.answers.specs.Faults.{plain, at_block, of_trade, in_entry}
-use Rattle.answers.specs.Numbers.{number_of, fault_number}
+use Rattle.refusals.specs.declared.Refusal.{Refusal}
+use Rattle.refusals.specs.declared.Refusal.TheVariants.{NoCalls, OpeningRefused, EngineDown, JournalFull}
+use Rattle.refusals.specs.declared.Fault.{Fault}
+use Rattle.refusals.specs.Faults.{plain, at_block, of_trade, in_entry}
+use Rattle.refusals.specs.Numbers.{number_of, fault_number}
 use Rattle.instruction.specs.declared.Instruction.{Instruction}
 use Rattle.instruction.specs.Kinds.{kind_at}
 use Rattle.instruction.specs.declared.Kind.TheVariants.{Issue}
-use Rattle.book.specs.Rulings.{Check, first}
+use Rattle.book.specs.Rulings.{Check, first_refusal}
 use Rattle.rulebook.specs.declared.State.{State}
 use Rattle.rulebook.specs.declared.Terms.{Terms}
 use Rattle.rulebook.specs.Table.{Act}
-use Rattle.rulebook.specs.Rules.{Rulebook, Standing, answer, about, fault_of, with_trade, all_checks, verdict, names_trade}
+use Rattle.rulebook.specs.Rules.{Rulebook, Standing, answer, fault_about, fault_of, with_trade, all_checks, fault_answer, names_trade}
 use Rattle.device.specs.Medium.{Medium}
 use Rattle.device.specs.Calls.{Answer, and_then}
-use Rattle.journal.specs.Journal.{record_at, mark_at, enter_answer}
+use Rattle.journal.specs.Journal.{record_at, mark_at, write_entry_answer}
 use Rattle.engine.specs.declared.engine.Mode.{Mode}
 use Rattle.engine.specs.declared.engine.Mode.TheVariants.{Open, Down, Refused}
 use Rattle.engine.specs.View.{View}
-use Rattle.engine.specs.Instructing.{ready, room_for, checked, within_entry, LeftBy, Instructed, Passes, IsFaultOf, cut_at, CutShort}
+use Rattle.engine.specs.Instructing.{ready, room_for, check_answer, within_entry, Leaves, TakesInstruction, Passes, IsFaultOf, cut_at, CutShort}
 use Rattle.engine.proofs.Refusals.{same-fault, names-by-kind}
 use Rattle.engine.proofs.Instructs.{let-pass}
 
@@ -49,11 +49,11 @@ calm-first-as : (b : Bool) (c r : Refusal) (rest : Result (Unit {0}) Refusal) �
 calm-first-as true c r rest n later e = let q : c ≡ r = cc in grind (arith, n, q)
 calm-first-as false c r rest n later e = later e
 
-calm-first : (cs : List Check) (r : Refusal) → calm cs ≡ true → first cs ≡ Err r → is13 r ≡ false
+calm-first : (cs : List Check) (r : Refusal) → calm cs ≡ true → first_refusal cs ≡ Err r → is13 r ≡ false
 calm-first [] r w e = absurd cc
 calm-first (c ∷ cs) r w e =
     let p = and_parts (not (is13 c.refusal)) (calm cs) w in
-    calm-first-as c.fails c.refusal r (first cs) p.0 (λ q. calm-first cs r p.1 q) e
+    calm-first-as c.fails c.refusal r (first_refusal cs) p.0 (λ q. calm-first cs r p.1 q) e
 
 -- every rule has a number over 20, so that a 13 is never the rules' own
 calm-rules : (h : Rulebook) (k : Act) (o : State) (m : Terms) (s : Standing) (x : Instruction) → calm (all_checks h k o m s x) ≡ true
@@ -67,7 +67,7 @@ told-calm x (Err r) f n e =
     let q : fault_of x r ≡ f = cc in
     subst (λ g. is13 g.refusal ≡ false) q (ap is13 (fault-refusal x r) ∙ n r refl)
 
-pub verdict-calm : (h : Rulebook) (s : Standing) (x : Instruction) (f : Fault) → verdict h s x ≡ Err f → is13 f.refusal ≡ false
+pub verdict-calm : (h : Rulebook) (s : Standing) (x : Instruction) (f : Fault) → fault_answer h s x ≡ Err f → is13 f.refusal ≡ false
 verdict-calm h s x f e =
     let k = kind_at x.kind in
     told-calm x (answer h s x) f (λ r q. calm-first (all_checks h k (s.state x.trade) (s.terms x.trade) s x) r (calm-rules h k (s.state x.trade) (s.terms x.trade) s x) q) e
@@ -77,7 +77,7 @@ room-calm-as true x f e = let q : fault_of x JournalFull ≡ f = cc in subst (λ
 room-calm-as false x f e = absurd cc
 
 room-calm : (x : Instruction) (v : View) (f : Fault) → room_for x v ≡ Err f → is13 f.refusal ≡ false
-room-calm x v f e = room-calm-as (leb v.pairs v.count) x f e
+room-calm x v f e = room-calm-as (leb v.pairs v.entry_count) x f e
 
 then-calm : (a b : Answer) (f : Fault) → ((g : Fault) → a ≡ Err g → is13 g.refusal ≡ false) → ((g : Fault) → b ≡ Err g → is13 g.refusal ≡ false) → and_then a b ≡ Err f → is13 f.refusal ≡ false
 then-calm (Ok u) b f p q e = q f e
@@ -89,22 +89,22 @@ ready-calm (Down y) x a f p e = let q : fault_of x EngineDown ≡ f = cc in subs
 ready-calm (Refused g) x a f p e = let q : fault_of x OpeningRefused ≡ f = cc in subst (λ g. is13 g.refusal ≡ false) q (ap is13 (fault-refusal x OpeningRefused))
 
 -- no check of an instruction is answered 13
-pub checked-calm : (h : Rulebook) (x : Instruction) (v : View) (f : Fault) → checked h x v ≡ Err f → is13 f.refusal ≡ false
-checked-calm h x v f e = ready-calm v.mode x (and_then (verdict h v.standing x) (room_for x v)) f (λ g q. then-calm (verdict h v.standing x) (room_for x v) g (verdict-calm h v.standing x) (room-calm x v) q) e
+pub checked-calm : (h : Rulebook) (x : Instruction) (v : View) (f : Fault) → check_answer h x v ≡ Err f → is13 f.refusal ≡ false
+checked-calm h x v f e = ready-calm v.mode x (and_then (fault_answer h v.standing x) (room_for x v)) f (λ g q. then-calm (fault_answer h v.standing x) (room_for x v) g (verdict-calm h v.standing x) (room-calm x v) q) e
 
 -- the four calls of an entry stop with 13, where fewer than four are left
-pub enter-cut : (m : Medium) (k : ℕ) (f : Fault) → enter_answer m k ≡ Err f → (is13 f.refusal ≡ true) × (m.left < 4)
+pub enter-cut : (m : Medium) (k : ℕ) (f : Fault) → write_entry_answer m k ≡ Err f → (is13 f.refusal ≡ true) × (m.calls_left < 4)
 enter-cut m k f e = grind (arith, e)
 
-pub enter-done : (m : Medium) (k : ℕ) → enter_answer m k ≡ Ok tt → 3 < m.left
+pub enter-done : (m : Medium) (k : ℕ) → write_entry_answer m k ≡ Ok tt → 3 < m.calls_left
 enter-done m k e = grind (arith, e)
 
 -- what the checks ask for is all that they ask for
-pub passes : {h : Rulebook} {x : Instruction} {v : View} → Passes h x v → checked h x v ≡ Ok tt
+pub passes : {h : Rulebook} {x : Instruction} {v : View} → Passes h x v → check_answer h x v ≡ Ok tt
 passes {h} {x} {v} p =
-    ap (λ (m : Mode). ready m x (and_then (verdict h v.standing x) (room_for x v))) p.mode
+    ap (λ (m : Mode). ready m x (and_then (fault_answer h v.standing x) (room_for x v))) p.mode
     ∙ ap (λ r. and_then (with_trade x r) (room_for x v)) p.accepted
-    ∙ cond-false (leb v.pairs v.count) _ _ (lt-leb v.pairs v.count p.room)
+    ∙ cond-false (leb v.pairs v.entry_count) _ _ (lt-leb v.pairs v.entry_count p.room)
 
 -- what a fault of the checks, or of the writing, names
 
@@ -137,10 +137,10 @@ ready-says Open x a f p e = p e
 ready-says (Down y) x a f p e = says-so x EngineDown f e
 ready-says (Refused g) x a f p e = says-so x OpeningRefused f e
 
-checked-says : (h : Rulebook) (x : Instruction) (v : View) (f : Fault) → checked h x v ≡ Err f → IsFaultOf x None None f
+checked-says : (h : Rulebook) (x : Instruction) (v : View) (f : Fault) → check_answer h x v ≡ Err f → IsFaultOf x None None f
 checked-says h x v f e =
-    ready-says v.mode x (and_then (verdict h v.standing x) (room_for x v)) f
-    (λ q. then-says x (verdict h v.standing x) (room_for x v) f (told-says x (answer h v.standing x) f) (room-says (leb v.pairs v.count) x f) q) e
+    ready-says v.mode x (and_then (fault_answer h v.standing x) (room_for x v)) f
+    (λ q. then-says x (fault_answer h v.standing x) (room_for x v) f (told-says x (answer h v.standing x) f) (room-says (leb v.pairs v.entry_count) x f) q) e
 
 -- the answer to the calls of an entry, by the calls left
 abbrev answer_by : ℕ → ℕ → Answer
@@ -162,7 +162,7 @@ cut-says (suc (suc zero)) k f l e = says-as 2 k (at_block NoCalls (mark_at k)) f
 cut-says (suc (suc (suc zero))) k f l e = says-as 3 k (plain NoCalls) f e (record { block = refl; trade = refl; rule = refl })
 cut-says (suc (suc (suc (suc n)))) k f l e = absurd (omega arith)
 
-within-says : (n k : ℕ) (x : Instruction) (g : Fault) → CutSays n k g → IsFaultOf x (cut_at k n) (Some k) (about x (in_entry k g))
+within-says : (n k : ℕ) (x : Instruction) (g : Fault) → CutSays n k g → IsFaultOf x (cut_at k n) (Some k) (fault_about x (in_entry k g))
 within-says n k x g s =
     let i = said-of x (Some k) (in_entry k g) (names_trade (kind_at x.kind)) (names-by-kind x.kind) refl s.trade s.rule in
     record { block = i.block ∙ s.block; entry = i.entry; trade = i.trade; rule = i.rule }
@@ -172,22 +172,22 @@ none-is-13 e = omega arith
 
 module _ (h : Rulebook) (x : Instruction) (v v' : View) where
   -- the writing was cut short
-  pub cut-down : Passes h x v → {f : Fault} → enter_answer v.medium v.count ≡ Err f → {r : Answer} → r ≡ Err (about x (in_entry v.count f)) → v'.mode ≡ Down x → CutShort h x v v' r
+  pub cut-down : Passes h x v → {f : Fault} → write_entry_answer v.medium v.entry_count ≡ Err f → {r : Answer} → r ≡ Err (fault_about x (in_entry v.entry_count f)) → v'.mode ≡ Down x → CutShort h x v v' r
   cut-down p {f} ew {r} er down =
-      let cut = enter-cut v.medium v.count f ew in
-      let is : fault_number r ≡ 13 = ap fault_number er ∙ ap number_of (about-refusal-as (names_trade (kind_at x.kind)) (in_entry v.count f) x.trade) ∙ eqb-true (number_of f.refusal) 13 cut.0 in
+      let cut = enter-cut v.medium v.entry_count f ew in
+      let is : fault_number r ≡ 13 = ap fault_number er ∙ ap number_of (about-refusal-as (names_trade (kind_at x.kind)) (in_entry v.entry_count f) x.trade) ∙ eqb-true (number_of f.refusal) 13 cut.0 in
       record {
         only = λ e. (p, cut.1);
         always = λ q l. is;
         hand = λ e. down;
         cut = λ g eg n.
-            subst (λ y. IsFaultOf x (cut_at v.count v.medium.left) (Some v.count) y) (same-fault (about x (in_entry v.count f)) g (sym er ∙ eg))
-            (within-says v.medium.left v.count x f (cut-says v.medium.left v.count f cut.1 ew));
+            subst (λ y. IsFaultOf x (cut_at v.entry_count v.medium.calls_left) (Some v.entry_count) y) (same-fault (fault_about x (in_entry v.entry_count f)) g (sym er ∙ eg))
+            (within-says v.medium.calls_left v.entry_count x f (cut-says v.medium.calls_left v.entry_count f cut.1 ew));
         check = λ g eg n. absurd (n (ap fault_number (sym eg) ∙ is));
       }
 
   -- by what the checks answer, and what the writing of the entry does
-  cut-by : (c w r : Answer) → checked h x v ≡ c → enter_answer v.medium v.count ≡ w → r ≡ and_then c (within_entry x v.count w) → LeftBy c w x v v' → CutShort h x v v' r
+  cut-by : (c w r : Answer) → check_answer h x v ≡ c → write_entry_answer v.medium v.entry_count ≡ w → r ≡ and_then c (within_entry x v.entry_count w) → Leaves c w x v v' → CutShort h x v v' r
   cut-by (Err f) w r ec ew er left =
       let calm = checked-calm h x v f ec in
       let other : fault_number r ≡ 13 → ⊥ = λ e. both_ways (is13 f.refusal) calm (eq-eqb (number_of f.refusal) 13 (sym (ap fault_number er) ∙ e)) in
@@ -199,7 +199,7 @@ module _ (h : Rulebook) (x : Instruction) (v v' : View) where
         check = λ g eg n. subst (λ y. IsFaultOf x None None y) (same-fault f g (sym er ∙ eg)) (checked-says h x v f ec);
       }
   cut-by (Ok u) (Ok z) r ec ew er left =
-      let done = enter-done v.medium v.count ew in
+      let done = enter-done v.medium v.entry_count ew in
       let other : fault_number r ≡ 13 → ⊥ = λ e. none-is-13 (sym (ap fault_number er) ∙ e) in
       record {
         only = λ e. absurd (other e);
@@ -210,5 +210,5 @@ module _ (h : Rulebook) (x : Instruction) (v v' : View) where
       }
   cut-by (Ok u) (Err f) r ec ew er left = cut-down (let-pass (sym ec)) ew er left.mode
 
-  pub cut-short : {r : Answer} → Instructed h x v v' r → CutShort h x v v' r
-  cut-short {r} i = cut-by (checked h x v) (enter_answer v.medium v.count) r refl refl i.answer i.after
+  pub cut-short : {r : Answer} → TakesInstruction h x v v' r → CutShort h x v v' r
+  cut-short {r} i = cut-by (check_answer h x v) (write_entry_answer v.medium v.entry_count) r refl refl i.answer i.after

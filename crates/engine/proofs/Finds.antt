@@ -3,14 +3,14 @@ use Rattle.std.proofs.Common.{◌≡◌, ℕ, zero, suc, ◌+◌, ◌-◌, ◌*�
 use Rattle.std.proofs.lemmas.Bool.{eq-eqb, ne_eqb, cases_lt, cases_eq, cond-true, cond-false, false_from_ne_true}
 use Rattle.std.proofs.lemmas.List.{take_all, drop_all, take_more, drop_more}
 use Rattle.std.proofs.lemmas.Option.{same_Some, none-some}
-use Rattle.answers.specs.declared.Refusal.{Refusal}
-use Rattle.answers.specs.Numbers.{number_of}
-use Rattle.answers.specs.declared.Refusal.TheVariants.{NoCalls}
-use Rattle.answers.specs.declared.Fault.{Fault}
-use Rattle.answers.specs.Faults.{at_block, in_entry}
+use Rattle.refusals.specs.declared.Refusal.{Refusal}
+use Rattle.refusals.specs.Numbers.{number_of}
+use Rattle.refusals.specs.declared.Refusal.TheVariants.{NoCalls}
+use Rattle.refusals.specs.declared.Fault.{Fault}
+use Rattle.refusals.specs.Faults.{at_block, in_entry}
 use Rattle.instruction.specs.declared.Instruction.{Instruction}
 use Rattle.rulebook.specs.Rules.{Rulebook, Standing, empty, answer, with_trade, effect, Runs, start, more}
-use Rattle.device.specs.Medium.{Medium, Bounded}
+use Rattle.device.specs.Medium.{Medium, IsBounded}
 use Rattle.journal.specs.Journal.{record_at, mark_at, Good}
 use Rattle.journal.proofs.Survives.{Found}
 use Rattle.journal.specs.Blocks.{mark_bytes, record_in, read_in, no_instruction}
@@ -18,7 +18,7 @@ use Rattle.journal.proofs.Trips.{mark-is, mark-back}
 use Rattle.engine.specs.declared.engine.Recovered.{Recovered}
 use Rattle.engine.specs.Recovery.{with_calls, good, told, said, allowed, ruled, marked, entry_answer, turn, Scan, scan}
 use Rattle.engine.specs.Opening.{last_of}
-use Rattle.engine.specs.Lasting.{written_by}
+use Rattle.engine.specs.Lasting.{blocks_for_books}
 
 -- from s the instructions are accepted one after another, and lead to t
 abbrev Follows : Rulebook → Standing → List Instruction → Standing → Type 0
@@ -47,11 +47,11 @@ good-tested k None whole e = absurd cc
 good-tested k (Some bs) whole e = let w = whole bs refl in ap Some (mark-back bs w.0 w.1 k e)
 
 -- one that is tested as good is so,
-pub mark-tested : (m : Medium) (k : ℕ) → Bounded m → good k (m.holds (mark_at k)) ≡ true → m.holds (mark_at k) ≡ Some (mark_bytes k)
+pub mark-tested : (m : Medium) (k : ℕ) → IsBounded m → good k (m.holds (mark_at k)) ≡ true → m.holds (mark_at k) ≡ Some (mark_bytes k)
 mark-tested m k b e = good-tested k (m.holds (mark_at k)) (λ bs h. (b.whole (mark_at k) bs h, b.bytes (mark_at k) bs h)) e
 
 -- and one that is not good is not
-pub mark-bad : (m : Medium) (k : ℕ) → Bounded m → (m.holds (mark_at k) ≡ Some (mark_bytes k) → ⊥) → good k (m.holds (mark_at k)) ≡ false
+pub mark-bad : (m : Medium) (k : ℕ) → IsBounded m → (m.holds (mark_at k) ≡ Some (mark_bytes k) → ⊥) → good k (m.holds (mark_at k)) ≡ false
 mark-bad m k b bad =
     false_from_ne_true (good k (m.holds (mark_at k))) (λ e. bad (mark-tested m k b e))
 
@@ -64,12 +64,12 @@ said-so (Err f) x e = absurd (none-some x e)
 pub record Ends (z : Scan) (n calls : ℕ) (ws : List Instruction) (t : Standing) : Type 0 where
   pub enough : 2 * n ≤ calls → z.outcome ≡ Ok (record { count = length ws; last = last_of ws })
   pub only : (found : Recovered) → z.outcome ≡ Ok found → (found ≡ record { count = length ws; last = last_of ws }) × (z.standing ≡ t)
-  pub fewer : z.left ≤ calls
+  pub fewer : z.calls_left ≤ calls
   pub short : (f : Fault) → z.outcome ≡ Err f → number_of f.refusal ≡ 13
 
 module _ {ws : List Instruction} {t : Standing} where
   ends-found : (k n calls left : ℕ) (s : Standing) (last : Option Instruction) → k ≡ length ws → last ≡ last_of ws → t ≡ s → left ≤ calls
-      → Ends (record { outcome = Ok (record { count = k; last = last }); left = left; standing = s }) n calls ws t
+      → Ends (record { outcome = Ok (record { count = k; last = last }); calls_left = left; standing = s }) n calls ws t
   ends-found k n calls left s last ek el es l =
       let same : ◌≡◌ {A = Recovered} (record { count = k; last = last }) (record { count = length ws; last = last_of ws }) = λ i. record { count = ek i; last = el i } in
       record {
@@ -79,7 +79,7 @@ module _ {ws : List Instruction} {t : Standing} where
         short = λ f e. absurd cc;
       }
 
-  ends-refused : (f : Fault) (n calls left : ℕ) (s : Standing) → number_of f.refusal ≡ 13 → calls < 2 * n → left ≤ calls → Ends (record { outcome = Err f; left = left; standing = s }) n calls ws t
+  ends-refused : (f : Fault) (n calls left : ℕ) (s : Standing) → number_of f.refusal ≡ 13 → calls < 2 * n → left ≤ calls → Ends (record { outcome = Err f; calls_left = left; standing = s }) n calls ws t
   ends-refused f n calls left s wants few l = record {
     enough = λ h. absurd (omega arith);
     only = λ found e. absurd cc;
@@ -112,7 +112,7 @@ module _ (h : Rulebook) (m : Medium) (s : Standing) (k calls : ℕ) where
         ∙ ap (ruled h s k) (cond-false (eqb (calls - 1) 0) _ _ (ne_eqb (calls - 1) 0 more-calls) ∙ ap (said k) holds ∙ ap (told k) is)
         ∙ ap (λ r. allowed k x (with_trade x r)) ok
 
-module _ (h : Rulebook) (pairs : ℕ) (few : pairs ≤ 32767) (m : Medium) (b : Bounded m) (ws : List Instruction) (f : Found (written_by h pairs) m ws) (t : Standing) where
+module _ (h : Rulebook) (pairs : ℕ) (few : pairs ≤ 32767) (m : Medium) (b : IsBounded m) (ws : List Instruction) (f : Found (blocks_for_books h pairs) m ws) (t : Standing) where
   -- what comes after entry k
   abbrev turns : ℕ → ℕ → ℕ → Standing → Option Instruction → Scan
   turns n k calls s last =
@@ -124,7 +124,7 @@ module _ (h : Rulebook) (pairs : ℕ) (few : pairs ≤ 32767) (m : Medium) (b : 
       elim (cases_eq calls 0) [
         | inl z ↦ rw (no-mark-call h m s k calls z) (ends-refused _ (suc n) calls (calls - 2) s refl (omega arith) (omega arith))
         | inr some ↦
-            let bad : m.holds (mark_at k) ≡ Some (mark_bytes k) → ⊥ = subst (λ j. Good (written_by h pairs) m j → ⊥) (sym ek) (f.stop (omega arith)) in
+            let bad : m.holds (mark_at k) ≡ Some (mark_bytes k) → ⊥ = subst (λ j. Good (blocks_for_books h pairs) m j → ⊥) (sym ek) (f.stop (omega arith)) in
             rw (mark-answers h m s k calls some false (mark-bad m k b bad)) (ends-found k (suc n) calls (calls - 1) s last ek el es (omega arith))
       ]
 
@@ -157,6 +157,6 @@ module _ (h : Rulebook) (pairs : ℕ) (few : pairs ≤ 32767) (m : Medium) (b : 
       ]
 
 -- A recovery of a journal in which an opening finds ws, whose instructions lead to s, finds ws and leads there.
-pub calls-find : (h : Rulebook) (pairs : ℕ) (m : Medium) (ws : List Instruction) (s : Standing) → pairs ≤ 32767 → Bounded m → Found (written_by h pairs) m ws → Runs h ws s
+pub calls-find : (h : Rulebook) (pairs : ℕ) (m : Medium) (ws : List Instruction) (s : Standing) → pairs ≤ 32767 → IsBounded m → Found (blocks_for_books h pairs) m ws → Runs h ws s
     → (calls : ℕ) → Ends (scan h pairs (with_calls calls m) 0 empty None) pairs calls ws s
 calls-find h pairs m ws s few b f r calls = recovers h pairs few m b ws f s pairs 0 calls empty None (omega arith) (omega arith) (follows h r) refl

@@ -1,16 +1,16 @@
 -- An instruction that the checks let pass.
 use Rattle.std.proofs.Common.{◌≡◌, ◌<◌, Ok, Err, sym, refl, arith}
-use Rattle.answers.specs.declared.Fault.{Fault}
+use Rattle.refusals.specs.declared.Fault.{Fault}
 use Rattle.instruction.specs.declared.Instruction.{Instruction}
-use Rattle.rulebook.specs.Rules.{Rulebook, answer, verdict}
+use Rattle.rulebook.specs.Rules.{Rulebook, answer, fault_answer}
 use Rattle.ledger.proofs.Carried.{accepts}
 use Rattle.device.specs.Calls.{Answer, and_then}
 use Rattle.device.proofs.Answered.{then-passed}
-use Rattle.journal.specs.Journal.{enter_answer}
+use Rattle.journal.specs.Journal.{write_entry_answer}
 use Rattle.engine.specs.declared.engine.Mode.{Mode}
 use Rattle.engine.specs.declared.engine.Mode.TheVariants.{Open, Down, Refused}
 use Rattle.engine.specs.View.{View}
-use Rattle.engine.specs.Instructing.{ready, room_for, checked, Accepted, Instructed, Passes}
+use Rattle.engine.specs.Instructing.{ready, room_for, check_answer, Accepts, TakesInstruction, Passes}
 
 no-refusal : {e : Fault} {u : Unit {0}} → ◌≡◌ {A = Answer} (Err e) (Ok u) → ⊥
 no-refusal e =
@@ -25,18 +25,18 @@ ready-passes Open x next e = (refl, e)
 ready-passes (Down y) x next e = absurd (no-refusal (sym e))
 ready-passes (Refused f) x next e = absurd (no-refusal (sym e))
 
-room-passes : (x : Instruction) (v : View) → room_for x v ≡ Ok tt → v.count < v.pairs
+room-passes : (x : Instruction) (v : View) → room_for x v ≡ Ok tt → v.entry_count < v.pairs
 room-passes x v e = grind arith
 
-pub let-pass : {h : Rulebook} {x : Instruction} {v : View} → Ok tt ≡ checked h x v → LetPass h x v
+pub let-pass : {h : Rulebook} {x : Instruction} {v : View} → Ok tt ≡ check_answer h x v → LetPass h x v
 let-pass {h} {x} {v} e =
-    let p = ready-passes v.mode x (and_then (verdict h v.standing x) (room_for x v)) e in
-    let q = then-passed (verdict h v.standing x) (room_for x v) p.1 in
+    let p = ready-passes v.mode x (and_then (fault_answer h v.standing x) (room_for x v)) e in
+    let q = then-passed (fault_answer h v.standing x) (room_for x v) p.1 in
     record { mode = p.0; accepted = accepts x (answer h v.standing x) q.0; room = room-passes x v q.1 }
 
 -- an instruction that was let pass, and written and carried out
-pub carried-out : {h : Rulebook} {x : Instruction} {v v' : View} → Ok tt ≡ checked h x v → Ok tt ≡ enter_answer v.medium v.count
-    → (LetPass h x v → Accepted x v v') → Instructed h x v v' (Ok tt)
+pub carried-out : {h : Rulebook} {x : Instruction} {v v' : View} → Ok tt ≡ check_answer h x v → Ok tt ≡ write_entry_answer v.medium v.entry_count
+    → (LetPass h x v → Accepts x v v') → TakesInstruction h x v v' (Ok tt)
 carried-out {h} {x} {v} {v'} pass written after =
     record {
       answer = rw (sym pass, sym written) refl;

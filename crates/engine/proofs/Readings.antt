@@ -2,12 +2,12 @@
 use Rattle.std.proofs.Common.{◌≡◌, ℕ, zero, suc, ◌+◌, ◌-◌, ◌*◌, ◌<◌, ◌≤◌, ◌&&◌, Bool, true, false, cond, eqb, ltb, leb, List, [], ◌∷◌, ◌++◌, length, take, Some, None, Ok, Err, Option, Result, sym, refl, ap, ◌∙◌, subst, inl, inr, add-one, length-append, append-nil, arith}
 use Rattle.std.proofs.lemmas.Bool.{cond-true, cond-false, eqb-true, eqb-false, lt-ltb, le-ltb, cases_Bool}
 use Rattle.std.proofs.lemmas.List.{take_all}
-use Rattle.answers.specs.declared.Refusal.{Refusal}
-use Rattle.answers.specs.declared.Fault.{Fault}
+use Rattle.refusals.specs.declared.Refusal.{Refusal}
+use Rattle.refusals.specs.declared.Fault.{Fault}
 use Rattle.instruction.specs.declared.Instruction.{Instruction}
-use Rattle.rulebook.specs.Rules.{Rulebook, Standing, verdict}
+use Rattle.rulebook.specs.Rules.{Rulebook, Standing, fault_answer}
 use Rattle.device.specs.Medium.{Medium}
-use Rattle.device.specs.Traces.{DeviceCall, reading, writing, syncing, restarting, Traced, only_reads, ReadOnly}
+use Rattle.device.specs.Traces.{DeviceCall, reading, writing, syncing, restarting, IsTrace, only_reads, ReadOnly}
 use Rattle.device.proofs.Traces.{traced-append, traced-on, only_reads-append}
 use Rattle.journal.specs.Journal.{record_at, mark_at}
 use Rattle.journal.specs.Blocks.{record_in}
@@ -17,7 +17,7 @@ use Rattle.journal.specs.Blocks.{header_in}
 use Rattle.engine.specs.declared.engine.Mode.{Mode}
 use Rattle.engine.specs.declared.engine.Mode.TheVariants.{Open, Down, Refused}
 use Rattle.engine.specs.View.{View}
-use Rattle.engine.specs.Opening.{fitting, headed, header_held, header_answer, after_header, refused_as, opened}
+use Rattle.engine.specs.Opening.{fitting, headed, header_held, header_answer, after_header, refused_as, opening_view}
 use Rattle.engine.specs.Tracing.{block_read, entry_reads, list_reads, refused_reads, opened_reads, opening_calls}
 
 -- a check that answered well found a call left, and one that did not found none
@@ -28,18 +28,18 @@ some-left n f r x e =
       | inr o ↦ let q = eqb-false n 0 o in omega arith
     ]
 
-pub mark-spends : (m : Medium) (k : ℕ) (b : Bool) → Ok b ≡ mark_answer m k → 0 < m.left
-mark-spends m k b e = some-left m.left _ (Ok (good k (m.holds (mark_at k)))) b e
+pub mark-spends : (m : Medium) (k : ℕ) (b : Bool) → Ok b ≡ mark_answer m k → 0 < m.calls_left
+mark-spends m k b e = some-left m.calls_left _ (Ok (good k (m.holds (mark_at k)))) b e
 
-pub mark-refused : (m : Medium) (k : ℕ) (f : Fault) → Err f ≡ mark_answer m k → (m.left ≡ 0) × (f.entry ≡ Some k)
+pub mark-refused : (m : Medium) (k : ℕ) (f : Fault) → Err f ≡ mark_answer m k → (m.calls_left ≡ 0) × (f.entry ≡ Some k)
 mark-refused m k f e =
-    elim (cases_Bool (eqb m.left 0)) [
-      | inl t ↦ let q = e ∙ cond-true (eqb m.left 0) _ _ t in (eqb-true m.left 0 t, cc)
-      | inr o ↦ let q = e ∙ cond-false (eqb m.left 0) _ _ o in absurd cc
+    elim (cases_Bool (eqb m.calls_left 0)) [
+      | inl t ↦ let q = e ∙ cond-true (eqb m.calls_left 0) _ _ t in (eqb-true m.calls_left 0 t, cc)
+      | inr o ↦ let q = e ∙ cond-false (eqb m.calls_left 0) _ _ o in absurd cc
     ]
 
-pub record-spends : (m : Medium) (k : ℕ) (x : Instruction) → Ok x ≡ record_answer m k → 0 < m.left
-record-spends m k x e = some-left m.left _ (said k (m.holds (record_at k))) x e
+pub record-spends : (m : Medium) (k : ℕ) (x : Instruction) → Ok x ≡ record_answer m k → 0 < m.calls_left
+record-spends m k x e = some-left m.calls_left _ (said k (m.holds (record_at k))) x e
 
 -- a fault of entry k names it
 
@@ -53,9 +53,9 @@ said-names k (Some bs) f e = told-names k (record_in k bs) f e
 
 record-names : (m : Medium) (k : ℕ) (f : Fault) → record_answer m k ≡ Err f → f.entry ≡ Some k
 record-names m k f e =
-    elim (cases_Bool (eqb m.left 0)) [
-      | inl t ↦ let q = sym e ∙ cond-true (eqb m.left 0) _ _ t in cc
-      | inr o ↦ said-names k (m.holds (record_at k)) f (sym (cond-false (eqb m.left 0) _ _ o) ∙ e)
+    elim (cases_Bool (eqb m.calls_left 0)) [
+      | inl t ↦ let q = sym e ∙ cond-true (eqb m.calls_left 0) _ _ t in cc
+      | inr o ↦ said-names k (m.holds (record_at k)) f (sym (cond-false (eqb m.calls_left 0) _ _ o) ∙ e)
     ]
 
 allowed-names : (k : ℕ) (x : Instruction) (r : Result (Unit {0}) Fault) (f : Fault) → allowed k x r ≡ Err f → f.entry ≡ Some k
@@ -64,7 +64,7 @@ allowed-names k x (Err g) f e = cc
 
 module _ (h : Rulebook) (s : Standing) (k : ℕ) where
   ruled-names : (r : Result Instruction Fault) (f : Fault) → ((g : Fault) → r ≡ Err g → g.entry ≡ Some k) → ruled h s k r ≡ Err f → f.entry ≡ Some k
-  ruled-names (Ok x) f names e = allowed-names k x (verdict h s x) f e
+  ruled-names (Ok x) f names e = allowed-names k x (fault_answer h s x) f e
   ruled-names (Err g) f names e = names f (cc)
 
   marked-names : (m : Medium) (r : Result Bool Fault) (f : Fault) → ((g : Fault) → r ≡ Err g → g.entry ≡ Some k) → marked h m s k r ≡ Err f → f.entry ≡ Some k
@@ -91,60 +91,60 @@ no-entry-reads = refl
 
 module _ {D : Type 0} (makes : D → DeviceCall → D → Type 0) where
   -- a list of calls that there were enough calls for
-  all-made : (left : ℕ) (calls : List DeviceCall) (d e : D) → length calls ≤ left + 1 → Traced makes calls d e → Traced makes (take (left + 1) calls) d e
-  all-made left calls d e l t = subst (λ (cs : List DeviceCall). Traced makes cs d e) (sym (take_all (left + 1) calls l)) t
+  all-made : (left : ℕ) (calls : List DeviceCall) (d e : D) → length calls ≤ left + 1 → IsTrace makes calls d e → IsTrace makes (take (left + 1) calls) d e
+  all-made left calls d e l t = subst (λ (cs : List DeviceCall). IsTrace makes cs d e) (sym (take_all (left + 1) calls l)) t
 
   -- the reads of an entry, by what stopped them: the mark is not good,
-  pub mark-read : (left k : ℕ) {d e : D} → Traced makes (block_read (mark_at k) ∷ []) d e → Traced makes (take (left + 1) (block_read (mark_at k) ∷ [])) d e
+  pub mark-read : (left k : ℕ) {d e : D} → IsTrace makes (block_read (mark_at k) ∷ []) d e → IsTrace makes (take (left + 1) (block_read (mark_at k) ∷ [])) d e
   mark-read left k {d} {e} t = all-made left (block_read (mark_at k) ∷ []) d e (omega arith) t
 
   -- it finds no call left,
-  pub mark-cut : (left k : ℕ) {d e : D} → left ≡ 0 → Traced makes (block_read (mark_at k) ∷ []) d e
-      → Traced makes (take (left + 1) (block_read (mark_at k) ∷ block_read (record_at k) ∷ [])) d e
-  mark-cut left k {d} {e} none t = subst (λ n. Traced makes (take (n + 1) (block_read (mark_at k) ∷ block_read (record_at k) ∷ [])) d e) (sym none) t
+  pub mark-cut : (left k : ℕ) {d e : D} → left ≡ 0 → IsTrace makes (block_read (mark_at k) ∷ []) d e
+      → IsTrace makes (take (left + 1) (block_read (mark_at k) ∷ block_read (record_at k) ∷ [])) d e
+  mark-cut left k {d} {e} none t = subst (λ n. IsTrace makes (take (n + 1) (block_read (mark_at k) ∷ block_read (record_at k) ∷ [])) d e) (sym none) t
 
   -- or the record was read too
-  pub both-read : (left k : ℕ) {d e f : D} → 0 < left → Traced makes (block_read (mark_at k) ∷ []) d e → Traced makes (block_read (record_at k) ∷ []) e f
-      → Traced makes (take (left + 1) (block_read (mark_at k) ∷ block_read (record_at k) ∷ [])) d f
+  pub both-read : (left k : ℕ) {d e f : D} → 0 < left → IsTrace makes (block_read (mark_at k) ∷ []) d e → IsTrace makes (block_read (record_at k) ∷ []) e f
+      → IsTrace makes (take (left + 1) (block_read (mark_at k) ∷ block_read (record_at k) ∷ [])) d f
   both-read left k {d} {e} {f} some s t =
       all-made left (block_read (mark_at k) ∷ block_read (record_at k) ∷ []) d f (omega arith) (traced-append makes (block_read (mark_at k) ∷ []) (block_read (record_at k) ∷ []) d e f s t)
 
-  nothing-made : (left : ℕ) (d : D) → Traced makes (take (left + 1) []) d d
+  nothing-made : (left : ℕ) (d : D) → IsTrace makes (take (left + 1) []) d d
   nothing-made left d = all-made left [] d d (omega arith) refl
 
   -- the first k entries were read whole
   pub record ReadWhole (left k left' : ℕ) (d e : D) : Type 0 where
-    pub calls : Traced makes (take (left + 1) (entry_reads k)) d e
+    pub calls : IsTrace makes (take (left + 1) (entry_reads k)) d e
     pub spent : left ≡ left' + 2 * k
 
   pub none-read : (left : ℕ) (d : D) → ReadWhole left 0 left d d
-  none-read left d = record { calls = subst (λ (cs : List DeviceCall). Traced makes (take (left + 1) cs) d d) (sym no-entry-reads) (nothing-made left d); spent = omega arith }
+  none-read left d = record { calls = subst (λ (cs : List DeviceCall). IsTrace makes (take (left + 1) cs) d d) (sym no-entry-reads) (nothing-made left d); spent = omega arith }
 
   -- and then more was read
   module _ {left k left' : ℕ} {d e : D} (w : ReadWhole left k left' d e) (f : D) where
-    then-read : (calls : List DeviceCall) → Traced makes (take (left' + 1) calls) e f → Traced makes (take (left + 1) (entry_reads k ++ calls)) d f
+    then-read : (calls : List DeviceCall) → IsTrace makes (take (left' + 1) calls) e f → IsTrace makes (take (left + 1) (entry_reads k ++ calls)) d f
     then-read calls t = traced-on makes (entry_reads k) calls left left' d e f (omega (arith, w.spent, length-reads k)) w.calls t
 
-    both-more : Traced makes (take (left' + 1) (block_read (mark_at k) ∷ block_read (record_at k) ∷ [])) e f → Traced makes (take (left + 1) (entry_reads (k + 1))) d f
+    both-more : IsTrace makes (take (left' + 1) (block_read (mark_at k) ∷ block_read (record_at k) ∷ [])) e f → IsTrace makes (take (left + 1) (entry_reads (k + 1))) d f
     both-more t =
-        subst (λ (cs : List DeviceCall). Traced makes (take (left + 1) cs) d f) (sym (entry-reads-more k)) (then-read (block_read (mark_at k) ∷ block_read (record_at k) ∷ []) t)
+        subst (λ (cs : List DeviceCall). IsTrace makes (take (left + 1) cs) d f) (sym (entry-reads-more k)) (then-read (block_read (mark_at k) ∷ block_read (record_at k) ∷ []) t)
 
-    pub entry-more : 2 ≤ left' → Traced makes (take (left' + 1) (block_read (mark_at k) ∷ block_read (record_at k) ∷ [])) e f → ReadWhole left (k + 1) (left' - 2) d f
+    pub entry-more : 2 ≤ left' → IsTrace makes (take (left' + 1) (block_read (mark_at k) ∷ block_read (record_at k) ∷ [])) e f → ReadWhole left (k + 1) (left' - 2) d f
     entry-more l t = record { calls = both-more t; spent = omega (arith, w.spent) }
 
-    pub list-refused : (fault : Fault) → fault.entry ≡ Some k → Traced makes (take (left' + 1) (block_read (mark_at k) ∷ block_read (record_at k) ∷ [])) e f
-        → Traced makes (take (left + 1) (refused_reads fault.entry)) d f
-    list-refused fault names t = subst (λ o. Traced makes (take (left + 1) (refused_reads o)) d f) (sym names) (both-more t)
+    pub list-refused : (fault : Fault) → fault.entry ≡ Some k → IsTrace makes (take (left' + 1) (block_read (mark_at k) ∷ block_read (record_at k) ∷ [])) e f
+        → IsTrace makes (take (left + 1) (refused_reads fault.entry)) d f
+    list-refused fault names t = subst (λ o. IsTrace makes (take (left + 1) (refused_reads o)) d f) (sym names) (both-more t)
 
-    pub list-stopped : (pairs : ℕ) → k < pairs → Traced makes (take (left' + 1) (block_read (mark_at k) ∷ [])) e f → Traced makes (take (left + 1) (list_reads k pairs)) d f
+    pub list-stopped : (pairs : ℕ) → k < pairs → IsTrace makes (take (left' + 1) (block_read (mark_at k) ∷ [])) e f → IsTrace makes (take (left + 1) (list_reads k pairs)) d f
     list-stopped pairs l t =
         let more : list_reads k pairs ≡ entry_reads k ++ (block_read (mark_at k) ∷ []) = ap (λ (cs : List DeviceCall). entry_reads k ++ cs) (cond-true (ltb k pairs) _ _ (lt-ltb k pairs l)) in
-        subst (λ (cs : List DeviceCall). Traced makes (take (left + 1) cs) d f) (sym more) (then-read (block_read (mark_at k) ∷ []) t)
+        subst (λ (cs : List DeviceCall). IsTrace makes (take (left + 1) cs) d f) (sym more) (then-read (block_read (mark_at k) ∷ []) t)
 
-  pub list-whole : {left k left' : ℕ} {d e : D} → ReadWhole left k left' d e → (pairs : ℕ) → pairs ≤ k → Traced makes (take (left + 1) (list_reads k pairs)) d e
+  pub list-whole : {left k left' : ℕ} {d e : D} → ReadWhole left k left' d e → (pairs : ℕ) → pairs ≤ k → IsTrace makes (take (left + 1) (list_reads k pairs)) d e
   list-whole {left} {k} {left'} {d} {e} w pairs l =
       let more : list_reads k pairs ≡ entry_reads k ++ [] = ap (λ (cs : List DeviceCall). entry_reads k ++ cs) (cond-false (ltb k pairs) _ _ (le-ltb k pairs l)) in
-      subst (λ (cs : List DeviceCall). Traced makes (take (left + 1) cs) d e) (sym (more ∙ append-nil (entry_reads k))) w.calls
+      subst (λ (cs : List DeviceCall). IsTrace makes (take (left + 1) cs) d e) (sym (more ∙ append-nil (entry_reads k))) w.calls
 
 -- the calls that an entry took
 module _ (h : Rulebook) (s : Standing) (k : ℕ) where
@@ -152,7 +152,7 @@ module _ (h : Rulebook) (s : Standing) (k : ℕ) where
   ruled-from x (Ok y) e = (y, refl)
   ruled-from x (Err f) e = absurd cc
 
-  marked-two : (m : Medium) (x : Instruction) (r : Result Bool Fault) → r ≡ mark_answer m k → marked h m s k r ≡ Ok (Some x) → 2 ≤ m.left
+  marked-two : (m : Medium) (x : Instruction) (r : Result Bool Fault) → r ≡ mark_answer m k → marked h m s k r ≡ Ok (Some x) → 2 ≤ m.calls_left
   marked-two m x (Ok true) is e =
       let one = mark-spends m k true is in
       let y = ruled-from x (record_answer (drained 1 m) k) e in
@@ -161,7 +161,7 @@ module _ (h : Rulebook) (s : Standing) (k : ℕ) where
   marked-two m x (Ok false) is e = let o : ◌≡◌ {A = Option Instruction} None (Some x) = cc in absurd cc
   marked-two m x (Err f) is e = absurd cc
 
-  pub entry-two : (m : Medium) (x : Instruction) → Ok (Some x) ≡ entry_answer h m s k → 2 ≤ m.left
+  pub entry-two : (m : Medium) (x : Instruction) → Ok (Some x) ≡ entry_answer h m s k → 2 ≤ m.calls_left
   entry-two m x e = marked-two m x (mark_answer m k) refl (sym e)
 
 -- a fault of the header names no entry
@@ -188,42 +188,42 @@ pub header-unnamed : (register money : ℕ) (m : Medium) (f : Fault) → Err f �
 header-unnamed register money m f e =
     elim (cases_Bool (leb m.size 0)) [
       | inl none ↦ let q = sym (cond-true _ _ _ none) ∙ sym e in cc
-      | inr some ↦ (let q = sym (cond-false _ _ _ some) ∙ sym e in elim (cases_Bool (eqb m.left 0)) [
+      | inr some ↦ (let q = sym (cond-false _ _ _ some) ∙ sym e in elim (cases_Bool (eqb m.calls_left 0)) [
         | inl out ↦ let w = sym (cond-true _ _ _ out) ∙ q in cc
         | inr left ↦ held-unnamed register money m.size (m.holds 0) f (sym (cond-false _ _ _ left) ∙ q)
       ])
     ]
 
 -- one that passed its checks took a call
-pub header-spends : (register money pairs : ℕ) (m : Medium) → Ok pairs ≡ header_answer register money m → (0 < m.left) × (after_header m ≡ drained 1 m)
+pub header-spends : (register money pairs : ℕ) (m : Medium) → Ok pairs ≡ header_answer register money m → (0 < m.calls_left) × (after_header m ≡ drained 1 m)
 header-spends register money pairs m e =
     elim (cases_Bool (leb m.size 0)) [
       | inl none ↦ let q = e ∙ cond-true _ _ _ none in absurd cc
       | inr some ↦
           let q = e ∙ cond-false _ _ _ some in
-          (some-left m.left _ (header_held register money m.size (m.holds 0)) pairs q, cond-false (leb m.size 0) m (drained 1 m) some)
+          (some-left m.calls_left _ (header_held register money m.size (m.holds 0)) pairs q, cond-false (leb m.size 0) m (drained 1 m) some)
     ]
 
 module _ {D : Type 0} (makes : D → DeviceCall → D → Type 0) where
   -- the header alone
-  pub header-read : (left : ℕ) (f : Fault) {d e : D} → f.entry ≡ None → Traced makes (block_read 0 ∷ []) d e → Traced makes (take (left + 1) (block_read 0 ∷ refused_reads f.entry)) d e
+  pub header-read : (left : ℕ) (f : Fault) {d e : D} → f.entry ≡ None → IsTrace makes (block_read 0 ∷ []) d e → IsTrace makes (take (left + 1) (block_read 0 ∷ refused_reads f.entry)) d e
   header-read left f {d} {e} none t =
-      subst (λ o. Traced makes (take (left + 1) (block_read 0 ∷ refused_reads o)) d e) (sym none) (all-made makes left (block_read 0 ∷ []) d e (omega arith) t)
+      subst (λ o. IsTrace makes (take (left + 1) (block_read 0 ∷ refused_reads o)) d e) (sym none) (all-made makes left (block_read 0 ∷ []) d e (omega arith) t)
 
   -- the header, and what is read after it
-  pub header-then : (left : ℕ) (calls : List DeviceCall) (d e f : D) → 0 < left → Traced makes (block_read 0 ∷ []) d e → Traced makes (take (left - 1 + 1) calls) e f
-      → Traced makes (take (left + 1) (block_read 0 ∷ calls)) d f
+  pub header-then : (left : ℕ) (calls : List DeviceCall) (d e f : D) → 0 < left → IsTrace makes (block_read 0 ∷ []) d e → IsTrace makes (take (left - 1 + 1) calls) e f
+      → IsTrace makes (take (left + 1) (block_read 0 ∷ calls)) d f
   header-then left calls d e f some s t =
       traced-on makes (block_read 0 ∷ []) calls left (left - 1) d e f (omega arith) (all-made makes left (block_read 0 ∷ []) d e (omega arith) s) t
 
   -- by the view of the engine
-  pub refused-traced : (left : ℕ) (v : View) (f : Fault) (m : Medium) (d e : D) → v ≡ refused_as f m → Traced makes (take (left + 1) (refused_reads f.entry)) d e
-      → Traced makes (take (left + 1) (opened_reads v.mode v)) d e
-  refused-traced left v f m d e is t = subst (λ (u : View). Traced makes (take (left + 1) (opened_reads u.mode u)) d e) (sym is) t
+  pub refused-traced : (left : ℕ) (v : View) (f : Fault) (m : Medium) (d e : D) → v ≡ refused_as f m → IsTrace makes (take (left + 1) (refused_reads f.entry)) d e
+      → IsTrace makes (take (left + 1) (opened_reads v.mode v)) d e
+  refused-traced left v f m d e is t = subst (λ (u : View). IsTrace makes (take (left + 1) (opened_reads u.mode u)) d e) (sym is) t
 
-  pub opening-traced : (h : Rulebook) (m : Medium) (v : View) (d e : D) → v ≡ opened h m → Traced makes (take (m.left + 1) (block_read 0 ∷ opened_reads v.mode v)) d e
-      → Traced makes (opening_calls h m) d e
-  opening-traced h m v d e is t = subst (λ (u : View). Traced makes (take (m.left + 1) (block_read 0 ∷ opened_reads u.mode u)) d e) is t
+  pub opening-traced : (h : Rulebook) (m : Medium) (v : View) (d e : D) → v ≡ opening_view h m → IsTrace makes (take (m.calls_left + 1) (block_read 0 ∷ opened_reads v.mode v)) d e
+      → IsTrace makes (opening_calls h m) d e
+  opening-traced h m v d e is t = subst (λ (u : View). IsTrace makes (take (m.calls_left + 1) (block_read 0 ∷ opened_reads u.mode u)) d e) is t
 
 -- an opening makes no other calls than reads
 
@@ -256,9 +256,9 @@ taken-read (suc n) (restarting left remains ∷ calls) e = absurd cc
 
 pub opening-reads : (h : Rulebook) (m : Medium) → only_reads (opening_calls h m) ≡ true
 opening-reads h m =
-    let v = opened h m in
-    taken-read (m.left + 1) (block_read 0 ∷ opened_reads v.mode v) (opened-read v.mode v)
+    let v = opening_view h m in
+    taken-read (m.calls_left + 1) (block_read 0 ∷ opened_reads v.mode v) (opened-read v.mode v)
 
 -- what an opening went through were reads
-pub opens-reading : {D : Type 0} (makes : D → DeviceCall → D → Type 0) (h : Rulebook) (m : Medium) (d e : D) → Traced makes (opening_calls h m) d e → ReadOnly makes d e
+pub opens-reading : {D : Type 0} (makes : D → DeviceCall → D → Type 0) (h : Rulebook) (m : Medium) (d e : D) → IsTrace makes (opening_calls h m) d e → ReadOnly makes d e
 opens-reading makes h m d e t = (opening_calls h m, opening-reads h m, t)

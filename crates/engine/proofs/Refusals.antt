@@ -1,14 +1,14 @@
 -- Why the header or an entry is refused.
 use Rattle.std.proofs.Common.{◌≡◌, ℕ, ◌+◌, ◌-◌, ◌*◌, ◌^◌, ◌<◌, ◌&&◌, Bool, true, false, cond, eqb, ltb, leb, List, Some, None, Ok, Err, Option, Result, sym, refl, ap, ◌∙◌, subst, inl, inr, arith}
 use Rattle.std.proofs.lemmas.Bool.{cond-true, cond-false, eqb-true, eqb-false, ltb-true, leb-true, leb-false, cases_Bool, and_parts, both_ways, eq-eqb}
-use Rattle.answers.specs.declared.Refusal.{Refusal}
-use Rattle.answers.specs.declared.Fault.{Fault}
-use Rattle.answers.specs.Faults.{plain, of_trade, of_record}
+use Rattle.refusals.specs.declared.Refusal.{Refusal}
+use Rattle.refusals.specs.declared.Fault.{Fault}
+use Rattle.refusals.specs.Faults.{plain, of_trade, of_record}
 use Rattle.instruction.specs.declared.Instruction.{Instruction}
 use Rattle.instruction.specs.Kinds.{kind_at}
 use Rattle.rulebook.specs.Terms.{securities, cash}
 use Rattle.rulebook.specs.Rules.{Rulebook, Standing, answer, names_trade, fault_of, with_trade}
-use Rattle.device.specs.Medium.{Medium, Bounded}
+use Rattle.device.specs.Medium.{Medium, IsBounded}
 use Rattle.journal.specs.declared.header.Header.{Header}
 use Rattle.journal.specs.Journal.{record_at, mark_at}
 use Rattle.journal.specs.Blocks.{header_bytes, header_in, record_bytes, record_in}
@@ -38,14 +38,14 @@ rule-said k x r true e =
 rule-said k x r false e =
     record { number = refl; block = refl; entry = refl; trade = ap (λ b. cond b (Some x.trade) None) e; rule = refl }
 
-module _ (h : Rulebook) (m : Medium) (b : Bounded m) (f : Fault) where
+module _ (h : Rulebook) (m : Medium) (b : IsBounded m) (f : Fault) where
   abbrev register : ℕ
-  register = (h.kind securities).code
+  register = (h.book_kind securities).code
 
   abbrev money : ℕ
-  money = (h.kind cash).code
+  money = (h.book_kind cash).code
 
-  fitting-refuses : 0 < m.left → (head : Header) → Proper head → m.holds 0 ≡ Some (header_bytes head) → fitting register money m.size head ≡ Err f → HeaderRefused h m f
+  fitting-refuses : 0 < m.calls_left → (head : Header) → Proper head → m.holds 0 ≡ Some (header_bytes head) → fitting register money m.size head ≡ Err f → HeaderRefused h m f
   fitting-refuses left head proper holds e =
       elim (cases_Bool (eqb head.register register && eqb head.cash money)) [
         | inl same ↦
@@ -64,12 +64,12 @@ module _ (h : Rulebook) (m : Medium) (b : Bounded m) (f : Fault) where
             (as-said f w (record { number = refl; block = refl; entry = refl; trade = refl; rule = refl }))
       ]
 
-  headed-refuses : 0 < m.left → (bs : List ℕ) (r : Result Header Refusal) → m.holds 0 ≡ Some bs → ReadsHeader bs r → headed register money m.size r ≡ Err f → HeaderRefused h m f
+  headed-refuses : 0 < m.calls_left → (bs : List ℕ) (r : Result Header Refusal) → m.holds 0 ≡ Some bs → ReadsHeader bs r → headed register money m.size r ≡ Err f → HeaderRefused h m f
   headed-refuses left bs (Ok head) holds reads e = fitting-refuses left head reads.0 (holds ∙ ap Some (sym reads.1)) e
   headed-refuses left bs (Err r) holds reads e =
       no-header left bs holds reads.1 (as-said f e (record { number = reads.0; block = refl; entry = refl; trade = refl; rule = refl }))
 
-  held-refuses : 0 < m.size → 0 < m.left → (o : Option (List ℕ)) → m.holds 0 ≡ o → header_held register money m.size o ≡ Err f → HeaderRefused h m f
+  held-refuses : 0 < m.size → 0 < m.calls_left → (o : Option (List ℕ)) → m.holds 0 ≡ o → header_held register money m.size o ≡ Err f → HeaderRefused h m f
   held-refuses some left None holds e =
       unreadable-header some left holds (as-said f e (record { number = refl; block = refl; entry = refl; trade = refl; rule = refl }))
   held-refuses some left (Some bs) holds e =
@@ -85,38 +85,38 @@ module _ (h : Rulebook) (m : Medium) (b : Bounded m) (f : Fault) where
         | inr some ↦
             let q = sym (cond-false _ _ _ some) ∙ e in
             let size = leb-false m.size 0 some in
-            elim (cases_Bool (eqb m.left 0)) [
+            elim (cases_Bool (eqb m.calls_left 0)) [
               | inl out ↦
                   let w = sym (cond-true _ _ _ out) ∙ q in
-                  no-header-call (omega arith) (eqb-true m.left 0 out) (as-said f w (record { number = refl; block = refl; entry = refl; trade = refl; rule = refl }))
+                  no-header-call (omega arith) (eqb-true m.calls_left 0 out) (as-said f w (record { number = refl; block = refl; entry = refl; trade = refl; rule = refl }))
               | inr left ↦
                   let w = sym (cond-false _ _ _ left) ∙ q in
-                  let calls = eqb-false m.left 0 left in
+                  let calls = eqb-false m.calls_left 0 left in
                   held-refuses (omega arith) (omega arith) (m.holds 0) refl w
             ]
       ]
 
   module _ (k : ℕ) (s : Standing) (low : k < 2 ^ 32) where
-    rule-refuses : GoodMark m k → 2 + 2 * k < m.left → (x : Instruction) → m.holds (record_at k) ≡ Some (record_bytes k x)
+    rule-refuses : GoodMark m k → 2 + 2 * k < m.calls_left → (x : Instruction) → m.holds (record_at k) ≡ Some (record_bytes k x)
         → (r : Result (Unit {0}) Refusal) → answer h s x ≡ r → allowed k x (with_trade x r) ≡ Err f → EntryRefused h m k s f
     rule-refuses mark left x holds (Ok u) is e = absurd cc
     rule-refuses mark left x holds (Err r) is e =
         let same = same-fault {X = Option Instruction} (of_record k (fault_of x r)) f e in
         rules-refuse mark left x holds r is (subst (λ g. IsRuleFault k x r g) same (rule-said k x r (names_trade (kind_at x.kind)) (names-by-kind x.kind)))
 
-    told-refuses : GoodMark m k → 2 + 2 * k < m.left → (bs : List ℕ) (r : Result Instruction Refusal) → m.holds (record_at k) ≡ Some bs → ReadsRecord k bs r
+    told-refuses : GoodMark m k → 2 + 2 * k < m.calls_left → (bs : List ℕ) (r : Result Instruction Refusal) → m.holds (record_at k) ≡ Some bs → ReadsRecord k bs r
         → ruled h s k (told k r) ≡ Err f → EntryRefused h m k s f
     told-refuses mark left bs (Ok x) holds reads e = rule-refuses mark left x (holds ∙ ap Some (sym reads)) (answer h s x) refl e
     told-refuses mark left bs (Err r) holds reads e =
         malformed mark left bs holds reads.1 (as-said f e (record { number = reads.0; block = refl; entry = refl; trade = refl; rule = refl }))
 
-    said-refuses : GoodMark m k → 2 + 2 * k < m.left → (o : Option (List ℕ)) → m.holds (record_at k) ≡ o → ruled h s k (said k o) ≡ Err f → EntryRefused h m k s f
+    said-refuses : GoodMark m k → 2 + 2 * k < m.calls_left → (o : Option (List ℕ)) → m.holds (record_at k) ≡ o → ruled h s k (said k o) ≡ Err f → EntryRefused h m k s f
     said-refuses mark left None holds e =
         unreadable-record mark left holds (as-said f e (record { number = refl; block = refl; entry = refl; trade = refl; rule = refl }))
     said-refuses mark left (Some bs) holds e =
         told-refuses mark left bs (record_in k bs) holds (reads-record k bs (record_in k bs) low (b.whole (record_at k) bs holds) (b.bytes (record_at k) bs holds) refl) e
 
-    module _ (calls : ℕ) (spent : m.left ≡ calls + (1 + 2 * k)) where
+    module _ (calls : ℕ) (spent : m.calls_left ≡ calls + (1 + 2 * k)) where
       record-refuses : GoodMark m k → 0 < calls → ruled h s k (record_answer (drained 1 (with_calls calls m)) k) ≡ Err f → EntryRefused h m k s f
       record-refuses mark some e =
           elim (cases_Bool (eqb (calls - 1) 0)) [

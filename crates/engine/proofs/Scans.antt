@@ -1,6 +1,6 @@
 -- The recovery, turn by turn.
 use Rattle.std.proofs.Common.{◌≡◌, ℕ, ◌+◌, ◌-◌, ◌<◌, ◌≤◌, Some, None, Ok, Err, Option, Result, sym, refl, ap, ◌∙◌, add-one, arith}
-use Rattle.answers.specs.declared.Fault.{Fault}
+use Rattle.refusals.specs.declared.Fault.{Fault}
 use Rattle.instruction.specs.declared.Instruction.{Instruction}
 use Rattle.rulebook.specs.Rules.{Rulebook, Standing, effect}
 use Rattle.device.specs.Medium.{Medium}
@@ -21,7 +21,7 @@ pub record Turn (h : Rulebook) (pairs : ℕ) (m₀ : Medium) (s₀ : Standing) (
   pub within : k ≤ pairs
   pub counted : found.count ≡ k
   pub same : scan h pairs m₀ 0 s₀ None ≡ scan h (pairs - k) m k s found.last
-  pub medium : m ≡ with_calls m.left m₀
+  pub medium : m ≡ with_calls m.calls_left m₀
 
 -- what the reading of an entry answers, and the device and the standing after it
 pub record EntryRead (h : Rulebook) (k : ℕ) (m : Medium) (s : Standing) (r : Result (Option Instruction) Fault) (m' : Medium) (s' : Standing) : Type 0 where
@@ -37,19 +37,19 @@ module _ {h : Rulebook} {pairs : ℕ} {m₀ : Medium} {s₀ : Standing} {k : ℕ
   abbrev onward : Instruction → Scan
   onward x = scan h (pairs - (k + 1)) (drained 2 m) (k + 1) (effect s x) (Some x)
 
-  as-scanned : {r : Result Recovered Fault} {m' : Medium} {s' : Standing} (n : ℕ) → scan h pairs m₀ 0 s₀ None ≡ record { outcome = r; left = n; standing = s' } → m' ≡ with_calls n m
+  as-scanned : {r : Result Recovered Fault} {m' : Medium} {s' : Standing} (n : ℕ) → scan h pairs m₀ 0 s₀ None ≡ record { outcome = r; calls_left = n; standing = s' } → m' ≡ with_calls n m
       → Scanned (scan h pairs m₀ 0 s₀ None) m₀ m' s' r
   as-scanned n e em = rw e (record { answer = refl; device = em ∙ ap (with_calls n) t.medium; books = refl })
 
   -- this found, where it ends
-  found-so-far : (m' : Medium) → ended m' k s found.last ≡ record { outcome = Ok found; left = m'.left; standing = s }
+  found-so-far : (m' : Medium) → ended m' k s found.last ≡ record { outcome = Ok found; calls_left = m'.calls_left; standing = s }
   found-so-far m' = ap (λ j. ended m' j s found.last) (sym t.counted)
 
   -- all entries are used
   pub all-read : pairs ≤ k → Scanned (scan h pairs m₀ 0 s₀ None) m₀ m s (Ok found)
   all-read l =
       let e : pairs - k ≡ 0 = omega arith in
-      as-scanned m.left (t.same ∙ ap (λ n. scan h n m k s found.last) e ∙ scan-none h m k s found.last ∙ found-so-far m) refl
+      as-scanned m.calls_left (t.same ∙ ap (λ n. scan h n m k s found.last) e ∙ scan-none h m k s found.last ∙ found-so-far m) refl
 
   turned : k < pairs → (r : Result (Option Instruction) Fault) → r ≡ entry_answer h m s k → scan h pairs m₀ 0 s₀ None ≡ turn r m k s found.last onward
   turned l r is =
@@ -59,11 +59,11 @@ module _ {h : Rulebook} {pairs : ℕ} {m₀ : Medium} {s₀ : Standing} {k : ℕ
   module _ (l : k < pairs) {m' : Medium} {s' : Standing} where
     -- the mark of entry k is not good
     pub mark-ends : EntryRead h k m s (Ok None) m' s' → Scanned (scan h pairs m₀ 0 s₀ None) m₀ m' s' (Ok found)
-    mark-ends e = rw e.books (as-scanned (m.left - 1) (turned l (Ok None) e.answer ∙ found-so-far (drained 1 m)) e.after)
+    mark-ends e = rw e.books (as-scanned (m.calls_left - 1) (turned l (Ok None) e.answer ∙ found-so-far (drained 1 m)) e.after)
 
     -- entry k is refused
     pub entry-refused : (f : Fault) → EntryRead h k m s (Err f) m' s' → Scanned (scan h pairs m₀ 0 s₀ None) m₀ m' s' (Err f)
-    entry-refused f e = rw e.books (as-scanned (m.left - 2) (turned l (Err f) e.answer) e.after)
+    entry-refused f e = rw e.books (as-scanned (m.calls_left - 2) (turned l (Err f) e.answer) e.after)
 
     pub next-turn : (x : Instruction) → EntryRead h k m s (Ok (Some x)) m' s' → Turn h pairs m₀ s₀ (k + 1) (record { count = k + 1; last = Some x }) m' s'
     next-turn x e =
@@ -71,5 +71,5 @@ module _ {h : Rulebook} {pairs : ℕ} {m₀ : Medium} {s₀ : Standing} {k : ℕ
           within = omega arith;
           counted = refl;
           same = turned l (Ok (Some x)) e.answer;
-          medium = ap (with_calls (m.left - 2)) t.medium;
+          medium = ap (with_calls (m.calls_left - 2)) t.medium;
         })

@@ -3,14 +3,14 @@ use Rattle.std.proofs.Common.{◌≡◌, ℕ, zero, suc, ◌+◌, ◌-◌, ◌*�
 use Rattle.std.proofs.lemmas.Bool.{cond-true, cond-false, eqb-true, ltb-false, leb-true, and_parts, cases_Bool, cases_eq, both_ways}
 use Rattle.std.proofs.lemmas.List.{length_push, get_or_push, get_or_append_left}
 use Rattle.std.specs.Option.{unwrap_or}
-use Rattle.answers.specs.declared.Refusal.{Refusal}
-use Rattle.answers.specs.declared.Fault.{Fault}
+use Rattle.refusals.specs.declared.Refusal.{Refusal}
+use Rattle.refusals.specs.declared.Fault.{Fault}
 use Rattle.instruction.specs.declared.Instruction.{Instruction}
 use Rattle.instruction.specs.Layout.{Fit}
 use Rattle.rulebook.specs.Terms.{securities, cash}
-use Rattle.rulebook.specs.Rules.{Rulebook, Standing, empty, answer, verdict, effect, Runs, start, more}
+use Rattle.rulebook.specs.Rules.{Rulebook, Standing, empty, answer, fault_answer, effect, Runs, start, more}
 use Rattle.ledger.proofs.Carried.{accepts}
-use Rattle.device.specs.Medium.{Medium, Bounded}
+use Rattle.device.specs.Medium.{Medium, IsBounded}
 use Rattle.device.specs.Calls.{SameBlocks}
 use Rattle.journal.specs.declared.header.Header.{Header}
 use Rattle.journal.specs.Journal.{record_at, mark_at}
@@ -21,8 +21,8 @@ use Rattle.engine.specs.declared.engine.Recovered.{Recovered}
 use Rattle.engine.specs.Recovery.{with_calls, drained, good, mark_answer, said, told, record_answer, allowed, ruled, marked, entry_answer, turn, Scan, scan}
 use Rattle.engine.specs.declared.engine.Mode.TheVariants.{Open}
 use Rattle.engine.specs.View.{View}
-use Rattle.engine.specs.Opening.{Fits, headed, header_held, header_answer, after_header, scanned_as, opened_on, opened, header_for, last_of}
-use Rattle.engine.specs.Lasting.{record_says, entry_in, listed, written_by}
+use Rattle.engine.specs.Opening.{Fits, headed, header_held, header_answer, after_header, scanned_as, opened_on, opening_view, header_for_books, last_of}
+use Rattle.engine.specs.Lasting.{record_says, entry_in, standing_list, blocks_for_books}
 use Rattle.engine.specs.Standing.{StandsOn, FoundOn, EntryRefused, ListRefused, Opens, Prompt}
 use Rattle.engine.proofs.Readings.{entry-two, header-spends}
 use Rattle.engine.proofs.Refusals.{same-fault, header-refuses, entry-refuses}
@@ -59,16 +59,16 @@ allowed-ends k x (Err f) e = absurd cc
 
 -- the device has the header and the blocks of a journal for these books, of so many pairs
 record Heads (h : Rulebook) (m : Medium) (pairs : ℕ) : Type 0 where
-  head : m.holds 0 ≡ Some (header_bytes (header_for h pairs))
+  head : m.holds 0 ≡ Some (header_bytes (header_for_books h pairs))
   some : 0 < pairs
   fits : Fits pairs m
 
-module _ (h : Rulebook) (m : Medium) (b : Bounded m) where
+module _ (h : Rulebook) (m : Medium) (b : IsBounded m) where
   abbrev register : ℕ
-  register = (h.kind securities).code
+  register = (h.book_kind securities).code
 
   abbrev money : ℕ
-  money = (h.kind cash).code
+  money = (h.book_kind cash).code
 
   heads-read : (pairs : ℕ) (bs : List ℕ) (r : Result Header Refusal) → m.holds 0 ≡ Some bs → header_in bs ≡ r → headed register money m.size r ≡ Ok pairs → Heads h m pairs
   heads-read pairs bs (Err f) holds is e = absurd cc
@@ -80,7 +80,7 @@ module _ (h : Rulebook) (m : Medium) (b : Bounded m) where
       let w = read-header bs head (b.whole 0 bs holds) (b.bytes 0 bs holds) is in
       let i = eqb-true head.register register q.0 in
       let j = eqb-true head.cash money q.1 in
-      let same : head ≡ header_for h pairs = λ k. record { register = i k; cash = j k; pairs = n k } in
+      let same : head ≡ header_for_books h pairs = λ k. record { register = i k; cash = j k; pairs = n k } in
       let room = ltb-false m.size (1 + 2 * head.pairs) s.0 in
       record {
         head = holds ∙ ap Some (sym w.1 ∙ ap header_bytes same);
@@ -96,18 +96,18 @@ module _ (h : Rulebook) (m : Medium) (b : Bounded m) where
   heads : (pairs : ℕ) → header_answer register money m ≡ Ok pairs → Heads h m pairs
   heads pairs e =
       let p = spared (leb m.size 0) _ _ pairs e in
-      let q = spared (eqb m.left 0) _ _ pairs p.1 in
+      let q = spared (eqb m.calls_left 0) _ _ pairs p.1 in
       heads-held pairs (m.holds 0) refl q.1
 
   -- the first k entries have been read, and lead to s
   record Prefix (k : ℕ) (s : Standing) (last : Option Instruction) : Type 0 where
     marks : (j : ℕ) → j < k → m.holds (mark_at j) ≡ Some (mark_bytes j)
     records : (j : ℕ) → j < k → m.holds (record_at j) ≡ Some (record_bytes j (entry_in m j))
-    list : Runs h (listed m k) s
-    is-last : last ≡ last_of (listed m k)
+    list : Runs h (standing_list m k) s
+    is-last : last ≡ last_of (standing_list m k)
 
   none-read : Prefix 0 empty None
-  unfolding listed
+  unfolding standing_list
   none-read = record {
     marks = λ j l. absurd (omega arith);
     records = λ j l. absurd (omega arith);
@@ -122,13 +122,13 @@ module _ (h : Rulebook) (m : Medium) (b : Bounded m) where
     says : entry_in m k ≡ x
     accepted : answer h s x ≡ Ok tt
 
-  listed-more : (k : ℕ) → listed m (k + 1) ≡ listed m k ++ (entry_in m k ∷ [])
-  unfolding listed
+  listed-more : (k : ℕ) → standing_list m (k + 1) ≡ standing_list m k ++ (entry_in m k ∷ [])
+  unfolding standing_list
   listed-more k = rw (add-one k) refl
 
   one-more : (k : ℕ) (s : Standing) (last : Option Instruction) (x : Instruction) → Prefix k s last → ReadsEntry k s x → Prefix (k + 1) (effect s x) (Some x)
   one-more k s last x p e =
-      let list : listed m (k + 1) ≡ listed m k ++ (x ∷ []) = listed-more k ∙ ap (λ y. listed m k ++ (y ∷ [])) e.says in
+      let list : standing_list m (k + 1) ≡ standing_list m k ++ (x ∷ []) = listed-more k ∙ ap (λ y. standing_list m k ++ (y ∷ [])) e.says in
       record {
         marks = λ j l.
             ⊎_elim (λ (i : j ≡ k). subst (λ n. m.holds (mark_at n) ≡ Some (mark_bytes n)) (sym i) e.mark) (λ ne. p.marks j (omega arith)) (cases_eq j k);
@@ -136,19 +136,19 @@ module _ (h : Rulebook) (m : Medium) (b : Bounded m) where
             ⊎_elim (λ (i : j ≡ k). subst (λ n. m.holds (record_at n) ≡ Some (record_bytes n (entry_in m n))) (sym i) (e.entry ∙ ap (λ y. Some (record_bytes k y)) (sym e.says)))
             (λ ne. p.records j (omega arith)) (cases_eq j k);
         list = subst (λ ys. Runs h ys (effect s x)) (sym list) (more x p.list e.accepted);
-        is-last = sym (ap last_of list ∙ last-more (listed m k) x);
+        is-last = sym (ap last_of list ∙ last-more (standing_list m k) x);
       }
 
   -- what an entry that was read says
   module _ (k : ℕ) (s : Standing) where
     ruled-so : (x : Instruction) (r : Result Instruction Fault) → ruled h s k r ≡ Ok (Some x) → (r ≡ Ok x) × (answer h s x ≡ Ok tt)
     ruled-so x (Ok y) e =
-        let p = allowed-so k y x (verdict h s y) e in
+        let p = allowed-so k y x (fault_answer h s y) e in
         (ap Ok p.0, subst (λ z. answer h s z ≡ Ok tt) p.0 (accepts y (answer h s y) p.1))
     ruled-so x (Err f) e = absurd cc
 
     ruled-ends : (r : Result Instruction Fault) → ruled h s k r ≡ Ok None → ⊥
-    ruled-ends (Ok y) e = allowed-ends k y (verdict h s y) e
+    ruled-ends (Ok y) e = allowed-ends k y (fault_answer h s y) e
     ruled-ends (Err f) e = absurd cc
 
     marked-so : (on : Medium) (x : Instruction) (r : Result Bool Fault) → marked h on s k r ≡ Ok (Some x) → (r ≡ Ok true) × (record_answer (drained 1 on) k ≡ Ok x) × (answer h s x ≡ Ok tt)
@@ -164,7 +164,7 @@ module _ (h : Rulebook) (m : Medium) (b : Bounded m) where
     -- the mark's test, from its answer
     tested : (on : Medium) (t : Bool) → mark_answer on k ≡ Ok t → good k (on.holds (mark_at k)) ≡ t
     tested on t e =
-        let p = spared (eqb on.left 0) _ _ t e in
+        let p = spared (eqb on.calls_left 0) _ _ t e in
         let o : ◌≡◌ {A = Result Bool Fault} (Ok (good k (on.holds (mark_at k)))) (Ok t) = p.1 in
         cc
 
@@ -172,7 +172,7 @@ module _ (h : Rulebook) (m : Medium) (b : Bounded m) where
     entry-read calls x e =
         let on = with_calls calls m in
         let p = marked-so on x (mark_answer on k) e in
-        let q = spared (eqb (drained 1 on).left 0) (said k (m.holds (record_at k))) _ x p.1 in
+        let q = spared (eqb (drained 1 on).calls_left 0) (said k (m.holds (record_at k))) _ x p.1 in
         let r = said-from k (m.holds (record_at k)) x q.1 in
         let w : record_bytes k x ≡ r.0 = record-back r.0 (b.whole (record_at k) r.0 r.1) (b.bytes (record_at k) r.0 r.1) k x r.2 in
         record {
@@ -235,7 +235,7 @@ module _ (h : Rulebook) (m : Medium) (b : Bounded m) where
 
   module _ (pairs : ℕ) (w : Heads h m pairs) where
     -- by what entry k answers, where it is known why what comes after it is refused
-    turn-refuses : (n k calls : ℕ) (s : Standing) (last : Option Instruction) (f : Fault) → k < pairs → m.left ≡ calls + (1 + 2 * k) → Prefix k s last
+    turn-refuses : (n k calls : ℕ) (s : Standing) (last : Option Instruction) (f : Fault) → k < pairs → m.calls_left ≡ calls + (1 + 2 * k) → Prefix k s last
         → ((x : Instruction) → ReadsEntry k s x → 2 ≤ calls → (onward pairs w.fits.few n k calls s x).outcome ≡ Err f → ListRefused h m f)
         → (r : Result (Option Instruction) Fault) → entry_answer h (with_calls calls m) s k ≡ r
         → (turn r (with_calls calls m) k s last (onward pairs w.fits.few n k calls s)).outcome ≡ Err f → ListRefused h m f
@@ -250,7 +250,7 @@ module _ (h : Rulebook) (m : Medium) (b : Bounded m) where
       refused = subst (λ x. EntryRefused h m k s x) (same-fault {X = Recovered} g f e) (entry-refuses h m b g k s (omega (arith, w.fits.few)) calls spent is);
     }
 
-    scan-refuses : (n k calls : ℕ) (s : Standing) (last : Option Instruction) (f : Fault) → n + k ≡ pairs → m.left ≡ calls + (1 + 2 * k) → Prefix k s last
+    scan-refuses : (n k calls : ℕ) (s : Standing) (last : Option Instruction) (f : Fault) → n + k ≡ pairs → m.calls_left ≡ calls + (1 + 2 * k) → Prefix k s last
         → (scan h n (with_calls calls m) k s last).outcome ≡ Err f → ListRefused h m f
     unfolding scan
     scan-refuses zero k calls s last f l spent p e = absurd cc
@@ -262,40 +262,40 @@ module _ (h : Rulebook) (m : Medium) (b : Bounded m) where
   -- by what the recovery answers
   scanned-well : (pairs : ℕ) (z : Scan) (r : Result Recovered Fault) → Heads h m pairs → ((found : Recovered) → r ≡ Ok found → Reads pairs z.standing found)
       → ((f : Fault) → r ≡ Err f → ListRefused h m f)
-      → Opens h m (scanned_as r pairs (with_calls z.left m) z.standing) (scanned_as r pairs (with_calls z.left m) z.standing).mode
+      → Opens h m (scanned_as r pairs (with_calls z.calls_left m) z.standing) (scanned_as r pairs (with_calls z.calls_left m) z.standing).mode
   scanned-well pairs z (Ok found) w reads refuses =
       let r = reads found refl in
       record {
         entries = stand pairs found.count z.standing found.last w r.within r.entries;
         stop = r.stop;
-        last = r.entries.is-last;
-        count = refl;
+        last_found = r.entries.is-last;
+        entry_count = refl;
       }
-  scanned-well pairs z (Err f) w reads refuses = (record { standing = refl; pairs = refl; found = refl; last = refl; count = refl }, inr (refuses f refl))
+  scanned-well pairs z (Err f) w reads refuses = (record { standing = refl; pairs = refl; found = refl; last_found = refl; entry_count = refl }, inr (refuses f refl))
 
   -- and by what the header's checks answer
-  headed-well : (n : ℕ) (r : Result ℕ Fault) → (0 < m.size → n ≡ m.left - 1) → header_answer register money m ≡ r → Opens h m (opened_on h (with_calls n m) r) (opened_on h (with_calls n m) r).mode
+  headed-well : (n : ℕ) (r : Result ℕ Fault) → (0 < m.size → n ≡ m.calls_left - 1) → header_answer register money m ≡ r → Opens h m (opened_on h (with_calls n m) r) (opened_on h (with_calls n m) r).mode
   headed-well n (Ok pairs) spent e =
       let w = heads pairs e in
       let z = scan h pairs (with_calls n m) 0 empty None in
-      let calls : m.left ≡ n + (1 + 2 * 0) = omega (arith, spent (omega (arith, w.fits.within)), (header-spends register money pairs m (sym e)).0) in
+      let calls : m.calls_left ≡ n + (1 + 2 * 0) = omega (arith, spent (omega (arith, w.fits.within)), (header-spends register money pairs m (sym e)).0) in
       scanned-well pairs z z.outcome w (λ found o. scan-reads pairs w.fits.few pairs 0 n empty None found (omega arith) none-read o)
       (λ f o. scan-refuses pairs w pairs 0 n empty None f (omega arith) calls none-read o)
-  headed-well n (Err f) spent e = (record { standing = refl; pairs = refl; found = refl; last = refl; count = refl }, inl (header-refuses h m b f e))
+  headed-well n (Err f) spent e = (record { standing = refl; pairs = refl; found = refl; last_found = refl; entry_count = refl }, inl (header-refuses h m b f e))
 
 -- the list of the first n records has n instructions, each what its record says
 
-listed-length : (m : Medium) (n : ℕ) → length (listed m n) ≡ n
-unfolding listed
+listed-length : (m : Medium) (n : ℕ) → length (standing_list m n) ≡ n
+unfolding standing_list
 listed-length m zero = refl
-listed-length m (suc n) = length_push (listed m n) (entry_in m n) ∙ omega (arith, listed-length m n)
+listed-length m (suc n) = length_push (standing_list m n) (entry_in m n) ∙ omega (arith, listed-length m n)
 
-listed-at : (m : Medium) (n k : ℕ) → k < n → get_or (listed m n) k no_instruction ≡ entry_in m k
-unfolding listed
+listed-at : (m : Medium) (n k : ℕ) → k < n → get_or (standing_list m n) k no_instruction ≡ entry_in m k
+unfolding standing_list
 listed-at m zero k l = absurd (omega arith)
 listed-at m (suc n) k l =
-    ⊎_elim (λ (i : k ≡ n). get_or_push (listed m n) (entry_in m n) no_instruction k (listed-length m n ∙ sym i) ∙ ap (entry_in m) (sym i))
-    (λ ne. get_or_append_left (listed m n) (entry_in m n ∷ []) no_instruction k (omega (arith, listed-length m n)) ∙ listed-at m n k (omega arith))
+    ⊎_elim (λ (i : k ≡ n). get_or_push (standing_list m n) (entry_in m n) no_instruction k (listed-length m n ∙ sym i) ∙ ap (entry_in m) (sym i))
+    (λ ne. get_or_append_left (standing_list m n) (entry_in m n ∷ []) no_instruction k (omega (arith, listed-length m n)) ∙ listed-at m n k (omega arith))
     (cases_eq k n)
 
 fit-none : Fit no_instruction
@@ -319,7 +319,7 @@ record-says k x (Err f) l is e =
 
 -- what an opening may find on a device, it does
 module _ (h : Rulebook) (m : Medium) (w : View) (f : FoundOn h m w) where
-  finds : Found (written_by h w.pairs) m (listed m w.found)
+  finds : Found (blocks_for_books h w.pairs) m (standing_list m w.found)
   finds =
       let n = listed-length m w.found in
       record {
@@ -335,12 +335,12 @@ module _ (h : Rulebook) (m : Medium) (w : View) (f : FoundOn h m w) where
         stop = λ l. subst (λ k. m.holds (mark_at k) ≡ Some (mark_bytes k) → ⊥) (sym n) (f.stop (omega arith));
       }
 
-  promptly : Bounded m → (h.kind securities).code < 256 → (h.kind cash).code < 256 → 1 + 2 * w.pairs ≤ m.left → (opened h m).mode ≡ Open
+  promptly : IsBounded m → (h.book_kind securities).code < 256 → (h.book_kind cash).code < 256 → 1 + 2 * w.pairs ≤ m.calls_left → (opening_view h m).mode ≡ Open
   promptly b r c calls =
       let z = scan h w.pairs (drained 1 m) 0 empty None in
-      let ends = calls-find h w.pairs m (listed m w.found) w.standing f.entries.fits.few b finds f.entries.list (m.left - 1) in
+      let ends = calls-find h w.pairs m (standing_list m w.found) w.standing f.entries.fits.few b finds f.entries.list (m.calls_left - 1) in
       ap (λ (v : View). v.mode) (then-scanned h w.pairs m f.entries.some f.entries.fits.few f.entries.fits.within (λ none. omega arith) r c f.entries.head)
-      ∙ ap (λ r. (scanned_as r w.pairs (with_calls z.left m) z.standing).mode) (ends.enough (omega arith))
+      ∙ ap (λ r. (scanned_as r w.pairs (with_calls z.calls_left m) z.standing).mode) (ends.enough (omega arith))
 
 -- an opening only reads
 
@@ -349,35 +349,35 @@ scanned-kept m pairs n s (Ok f) = fewer-calls m n
 scanned-kept m pairs n s (Err f) = fewer-calls m n
 
 opened-kept : (h : Rulebook) (m : Medium) (n : ℕ) (r : Result ℕ Fault) → SameBlocks m (opened_on h (with_calls n m) r).medium
-opened-kept h m n (Ok pairs) = let z = scan h pairs (with_calls n m) 0 empty None in scanned-kept m pairs z.left z.standing z.outcome
+opened-kept h m n (Ok pairs) = let z = scan h pairs (with_calls n m) 0 empty None in scanned-kept m pairs z.calls_left z.standing z.outcome
 opened-kept h m n (Err f) = fewer-calls m n
 
 -- the device after the header's checks
-after-checked : (m : Medium) → (n : ℕ) × (after_header m ≡ with_calls n m) × (0 < m.size → n ≡ m.left - 1)
+after-checked : (m : Medium) → (n : ℕ) × (after_header m ≡ with_calls n m) × (0 < m.size → n ≡ m.calls_left - 1)
 after-checked m =
     elim (cases_Bool (leb m.size 0)) [
       | inl z ↦
           let none = leb-true m.size 0 z in
-          (m.left, cond-true (leb m.size 0) m (drained 1 m) z, λ l. absurd (omega arith))
-      | inr some ↦ (m.left - 1, cond-false (leb m.size 0) m (drained 1 m) some, λ l. refl)
+          (m.calls_left, cond-true (leb m.size 0) m (drained 1 m) z, λ l. absurd (omega arith))
+      | inr some ↦ (m.calls_left - 1, cond-false (leb m.size 0) m (drained 1 m) some, λ l. refl)
     ]
 
 -- What an opening found on any device, where that is so, and what it leaves of the device.
 module _ (h : Rulebook) (m : Medium) where
   abbrev checks : Result ℕ Fault
-  checks = header_answer (h.kind securities).code (h.kind cash).code m
+  checks = header_answer (h.book_kind securities).code (h.book_kind cash).code m
 
-  pub opens-well : {v : View} → v ≡ opened h m → Bounded m → Opens h m v v.mode
+  pub opens-well : {v : View} → v ≡ opening_view h m → IsBounded m → Opens h m v v.mode
   opens-well {v} is b =
       let a = after-checked m in
       let e : v ≡ opened_on h (with_calls a.0 m) checks = is ∙ ap (λ d. opened_on h d checks) a.1 in
       subst (λ u. Opens h m u u.mode) (sym e) (headed-well h m b a.0 checks a.2 refl)
 
-  pub opens-keeping : {v : View} → v ≡ opened h m → SameBlocks m v.medium
+  pub opens-keeping : {v : View} → v ≡ opening_view h m → SameBlocks m v.medium
   opens-keeping {v} is =
       let a = after-checked m in
       let e : v ≡ opened_on h (with_calls a.0 m) checks = is ∙ ap (λ d. opened_on h d checks) a.1 in
       subst (λ u. SameBlocks m u.medium) (sym e) (opened-kept h m a.0 checks)
 
-  pub opens-promptly : {v : View} → v ≡ opened h m → Bounded m → (h.kind securities).code < 256 → (h.kind cash).code < 256 → Prompt h m v.mode
+  pub opens-promptly : {v : View} → v ≡ opening_view h m → IsBounded m → (h.book_kind securities).code < 256 → (h.book_kind cash).code < 256 → Prompt h m v.mode
   opens-promptly is b r c w f calls = ap (λ (u : View). u.mode) is ∙ promptly h m w f b r c calls

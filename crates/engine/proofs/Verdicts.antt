@@ -1,13 +1,13 @@
 -- Verdicts and refusals by their numbers.
 use Rattle.std.proofs.Common.{◌≡◌, ℕ, Bool, true, false, cond, ◌||◌, eqb, Ok, Err, Result, sym, refl, ap, ◌∙◌}
 use Rattle.std.proofs.lemmas.Bool.{both_ways}
-use Rattle.answers.specs.declared.Refusal.{Refusal}
-use Rattle.answers.specs.declared.Refusal.TheVariants.{NoBlock}
-use Rattle.answers.specs.Numbers.{number_of as refusal_number}
-use Rattle.answers.proofs.Numbered.{numbers_tell_apart}
+use Rattle.refusals.specs.declared.Refusal.{Refusal}
+use Rattle.refusals.specs.declared.Refusal.TheVariants.{NoBlock}
+use Rattle.refusals.specs.Numbers.{number_of as refusal_number}
+use Rattle.refusals.proofs.Numbered.{numbers_tell_apart}
 use Rattle.engine.specs.declared.slip.Verdict.{Verdict}
 use Rattle.engine.specs.declared.slip.Verdict.TheVariants.{Same, Stands, Unknown, Differs}
-use Rattle.engine.specs.Slips.{number_of, presented_number, PresentedApart}
+use Rattle.engine.specs.ClosingSlip.{number_of, presented_number, PresentedApart}
 
 -- the verdict with this number, if any has it
 abbrev verdict_at : ℕ → Verdict

@@ -1,14 +1,14 @@
 -- What an engine answers of itself, and what its closing gives. Assumes nothing.
 use Rattle.std.specs.Prelude.{ℕ, Some, None, Ok, Err, Option, Result}
-use Rattle.answers.specs.declared.Refusal.{Refusal}
-use Rattle.answers.specs.Numbers.{numbered}
-use Rattle.answers.specs.declared.Fault.{Fault}
+use Rattle.refusals.specs.declared.Refusal.{Refusal}
+use Rattle.refusals.specs.Numbers.{numbered}
+use Rattle.refusals.specs.declared.Fault.{Fault}
 use Rattle.engine.specs.declared.engine.Mode.{Mode}
 use Rattle.engine.specs.declared.engine.Mode.TheVariants.{Open, Down, Refused}
 use Rattle.engine.specs.declared.slip.Slip.{Slip}
 use Rattle.engine.specs.declared.slip.Contents.{Contents}
 use Rattle.engine.specs.declared.slip.Verdict.{Verdict}
-use Rattle.engine.specs.Slips.{contents, judged, unknown}
+use Rattle.engine.specs.ClosingSlip.{contents, slip_verdict, unknown}
 use Rattle.engine.specs.View.{View}
 
 -- the answer of its opening
@@ -25,18 +25,18 @@ if_answering (Refused f) r = Err (numbered 41)
 
 -- What the slip of a closing tells: how many entries stand, and what is in hand if power went; nothing where the opening was
 -- refused.
-abbrev pub told_by : Mode → ℕ → Option Contents
-told_by Open n = Some (record { entries = n; hand = None })
-told_by (Down x) n = Some (record { entries = n; hand = Some x })
-told_by (Refused f) n = unknown
+abbrev pub contents_by_mode : Mode → ℕ → Option Contents
+contents_by_mode Open n = Some (record { entries = n; hand = None })
+contents_by_mode (Down x) n = Some (record { entries = n; hand = Some x })
+contents_by_mode (Refused f) n = unknown
 
-abbrev pub closing : View → Option Contents
-closing v = told_by v.mode v.count
+abbrev pub closing_contents : View → Option Contents
+closing_contents v = contents_by_mode v.mode v.entry_count
 
 -- the verdict on a slip, or the slip itself where the opening was refused
 abbrev pub verdict_by : Mode → View → Slip → Result Verdict (Refusal × Slip)
-verdict_by Open v s = Ok (judged (contents s) v.found v.last)
-verdict_by (Down x) v s = Ok (judged (contents s) v.found v.last)
+verdict_by Open v s = Ok (slip_verdict (contents s) v.found v.last_found)
+verdict_by (Down x) v s = Ok (slip_verdict (contents s) v.found v.last_found)
 verdict_by (Refused f) v s = Err (numbered 41, s)
 
 abbrev pub presented : View → Slip → Result Verdict (Refusal × Slip)

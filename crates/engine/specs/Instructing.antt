@@ -1,12 +1,12 @@
 -- What an instruction is answered, and what it leaves of the engine. Assumes nothing.
 use Rattle.std.specs.Prelude.{◌≡◌, ℕ, ◌+◌, ◌<◌, cond, ◌&&◌, Some, None, Ok, Err, Option, ◌==◌, ◌≢◌, nat_le}
-use Rattle.answers.specs.Numbers.{numbered, number_of, fault_number}
-use Rattle.answers.specs.declared.Fault.{Fault}
-use Rattle.answers.specs.Faults.{in_entry}
+use Rattle.refusals.specs.Numbers.{numbered, number_of, fault_number}
+use Rattle.refusals.specs.declared.Fault.{Fault}
+use Rattle.refusals.specs.Faults.{in_entry}
 use Rattle.instruction.specs.declared.Instruction.{Instruction}
-use Rattle.rulebook.specs.Rules.{Rulebook, about, fault_of, answer, verdict, effect}
+use Rattle.rulebook.specs.Rules.{Rulebook, fault_about, fault_of, answer, fault_answer, effect}
 use Rattle.device.specs.Calls.{Answer, and_then}
-use Rattle.journal.specs.Journal.{record_at, mark_at, enter_answer, Entered}
+use Rattle.journal.specs.Journal.{record_at, mark_at, write_entry_answer, WritesEntry}
 use Rattle.journal.specs.Blocks.{record_bytes, mark_bytes}
 use Rattle.engine.specs.declared.engine.Mode.{Mode}
 use Rattle.engine.specs.declared.engine.Mode.TheVariants.{Open, Down, Refused}
@@ -20,57 +20,57 @@ ready (Refused f) x next = Err (fault_of x (numbered 41))
 
 -- all entries are used
 abbrev pub room_for : Instruction → View → Answer
-room_for x v = cond (nat_le v.pairs v.count) (Err (fault_of x (numbered 36))) (Ok tt)
+room_for x v = cond (nat_le v.pairs v.entry_count) (Err (fault_of x (numbered 36))) (Ok tt)
 
 -- the checks of an instruction in order, before anything is written: the engine, the rules, the room
-abbrev pub checked : Rulebook → Instruction → View → Answer
-checked h x v = ready v.mode x (and_then (verdict h v.standing x) (room_for x v))
+abbrev pub check_answer : Rulebook → Instruction → View → Answer
+check_answer h x v = ready v.mode x (and_then (fault_answer h v.standing x) (room_for x v))
 
 -- a fault met within entry k, where x was written
 abbrev pub within_entry : Instruction → ℕ → Answer → Answer
 within_entry x k (Ok u) = Ok tt
-within_entry x k (Err f) = Err (about x (in_entry k f))
+within_entry x k (Err f) = Err (fault_about x (in_entry k f))
 
 abbrev pub instruct_answer : Rulebook → Instruction → View → Answer
-instruct_answer h x v = and_then (checked h x v) (within_entry x v.count (enter_answer v.medium v.count))
+instruct_answer h x v = and_then (check_answer h x v) (within_entry x v.entry_count (write_entry_answer v.medium v.entry_count))
 
 -- The entry is written and firm, and only then books and trades are changed.
-pub record Accepted (x : Instruction) (v v' : View) : Type 0 where
+pub record Accepts (x : Instruction) (v v' : View) : Type 0 where
   pub mode : v'.mode ≡ Open
-  pub medium : Entered (record_bytes v.count x) (mark_bytes v.count) v.count v.medium v'.medium
+  pub medium : WritesEntry (record_bytes v.entry_count x) (mark_bytes v.entry_count) v.entry_count v.medium v'.medium
   pub standing : v'.standing ≡ effect v.standing x
   pub pairs : v'.pairs ≡ v.pairs
   pub found : v'.found ≡ v.found
-  pub last : v'.last ≡ v.last
-  pub count : v'.count ≡ v.count + 1
+  pub last_found : v'.last_found ≡ v.last_found
+  pub entry_count : v'.entry_count ≡ v.entry_count + 1
 
 -- Power went while the entry was written: the instruction is in hand, and books and trades are as they were.
-pub record CutOff (x : Instruction) (v v' : View) : Type 0 where
+pub record CutsOff (x : Instruction) (v v' : View) : Type 0 where
   pub mode : v'.mode ≡ Down x
-  pub medium : Entered (record_bytes v.count x) (mark_bytes v.count) v.count v.medium v'.medium
+  pub medium : WritesEntry (record_bytes v.entry_count x) (mark_bytes v.entry_count) v.entry_count v.medium v'.medium
   pub standing : v'.standing ≡ v.standing
   pub pairs : v'.pairs ≡ v.pairs
   pub found : v'.found ≡ v.found
-  pub last : v'.last ≡ v.last
-  pub count : v'.count ≡ v.count
+  pub last_found : v'.last_found ≡ v.last_found
+  pub entry_count : v'.entry_count ≡ v.entry_count
 
 -- what is left, by what the checks answered and what the writing of the entry did; a check that refuses leaves all as it was
-abbrev pub LeftBy : Answer → Answer → Instruction → View → View → Type 0
-LeftBy (Err f) written x v v' = v' ≡ v
-LeftBy (Ok u) (Ok w) x v v' = Accepted x v v'
-LeftBy (Ok u) (Err f) x v v' = CutOff x v v'
+abbrev pub Leaves : Answer → Answer → Instruction → View → View → Type 0
+Leaves (Err f) written x v v' = v' ≡ v
+Leaves (Ok u) (Ok w) x v v' = Accepts x v v'
+Leaves (Ok u) (Err f) x v v' = CutsOff x v v'
 
 -- an instruction answered r leads the engine from v to v'
-pub record Instructed (h : Rulebook) (x : Instruction) (v v' : View) (r : Answer) : Type 0 where
+pub record TakesInstruction (h : Rulebook) (x : Instruction) (v v' : View) (r : Answer) : Type 0 where
   pub answer : r ≡ instruct_answer h x v
-  pub after : LeftBy (checked h x v) (enter_answer v.medium v.count) x v v'
+  pub after : Leaves (check_answer h x v) (write_entry_answer v.medium v.entry_count) x v v'
 
 -- What the checks ask for: the engine is open, the rules accept the instruction, and an entry is
 -- left for it.
 pub record Passes (h : Rulebook) (x : Instruction) (v : View) : Type 0 where
   pub mode : v.mode ≡ Open
   pub accepted : answer h v.standing x ≡ Ok tt
-  pub room : v.count < v.pairs
+  pub room : v.entry_count < v.pairs
 
 -- What a refused instruction names: its trade where its kind is 3 to 7, and no rule.
 pub record IsFaultOf (x : Instruction) (b k : Option ℕ) (f : Fault) : Type 0 where
@@ -88,9 +88,9 @@ cut_at k left = cond (left == 0) (Some (record_at k)) (cond (left == 2) (Some (m
 -- then in hand, and the engine is down. Such a fault names the entry, and the block of a write; one of
 -- the checks names neither.
 pub record CutShort (h : Rulebook) (x : Instruction) (v v' : View) (r : Answer) : Type 0 where
-  pub only : fault_number r ≡ 13 → Passes h x v × (v.medium.left < 4)
-  pub always : Passes h x v → v.medium.left < 4 → fault_number r ≡ 13
+  pub only : fault_number r ≡ 13 → Passes h x v × (v.medium.calls_left < 4)
+  pub always : Passes h x v → v.medium.calls_left < 4 → fault_number r ≡ 13
   pub hand : fault_number r ≡ 13 → v'.mode ≡ Down x
   pub cut : (f : Fault) → r ≡ Err f → number_of f.refusal ≡ 13
-      → IsFaultOf x (cut_at v.count v.medium.left) (Some v.count) f
+      → IsFaultOf x (cut_at v.entry_count v.medium.calls_left) (Some v.entry_count) f
   pub check : (f : Fault) → r ≡ Err f → number_of f.refusal ≢ 13 → IsFaultOf x None None f

@@ -1,4 +1,4 @@
-pub mod Slips
+pub mod ClosingSlip
 pub mod View
 pub mod Recovery
 pub mod Opening

@@ -1,8 +1,8 @@
 -- What an opening finds and why it is refused, on a device that may hold anything.
 use Rattle.std.specs.Prelude.{◌≡◌, ℕ, ◌+◌, ◌*◌, ◌<◌, ◌≤◌, ◌⊎◌, cond, ◌&&◌, List, Some, None, Err, Option, ◌≢◌, nat_le}
-use Rattle.answers.specs.Numbers.{number_of}
-use Rattle.answers.specs.declared.Refusal.{Refusal}
-use Rattle.answers.specs.declared.Fault.{Fault}
+use Rattle.refusals.specs.Numbers.{number_of}
+use Rattle.refusals.specs.declared.Refusal.{Refusal}
+use Rattle.refusals.specs.declared.Fault.{Fault}
 use Rattle.instruction.specs.declared.Instruction.{Instruction}
 use Rattle.instruction.specs.Layout.{Fit}
 use Rattle.rulebook.specs.Terms.{securities, cash}
@@ -15,8 +15,8 @@ use Rattle.journal.specs.Reading.{Proper}
 use Rattle.engine.specs.declared.engine.Mode.{Mode}
 use Rattle.engine.specs.declared.engine.Mode.TheVariants.{Open, Down, Refused}
 use Rattle.engine.specs.View.{View}
-use Rattle.engine.specs.Opening.{Fits, header_for, last_of}
-use Rattle.engine.specs.Lasting.{entry_in, listed}
+use Rattle.engine.specs.Opening.{Fits, header_for_books, last_of}
+use Rattle.engine.specs.Lasting.{entry_in, standing_list}
 
 abbrev pub GoodMark : Medium → ℕ → Type 0
 GoodMark m k = m.holds (mark_at k) ≡ Some (mark_bytes k)
@@ -25,21 +25,21 @@ GoodMark m k = m.holds (mark_at k) ≡ Some (mark_bytes k)
 -- entries: good marks, each with its record, and the list that those records say. The rules accept it
 -- one instruction after another, and it leads to s.
 pub record StandsOn (h : Rulebook) (m : Medium) (pairs n : ℕ) (s : Standing) : Type 0 where
-  pub head : m.holds 0 ≡ Some (header_bytes (header_for h pairs))
+  pub head : m.holds 0 ≡ Some (header_bytes (header_for_books h pairs))
   pub some : 0 < pairs
   pub fits : Fits pairs m
   pub within : n ≤ pairs
   pub marks : (k : ℕ) → k < n → GoodMark m k
   pub records : (k : ℕ) → k < n → m.holds (record_at k) ≡ Some (record_bytes k (entry_in m k))
-  pub list : Runs h (listed m n) s
+  pub list : Runs h (standing_list m n) s
 
 -- What an engine whose opening was answered 0 found: the entries up to the first mark that is not
 -- good, or to the last pair.
 pub record FoundOn (h : Rulebook) (m : Medium) (v : View) : Type 0 where
   pub entries : StandsOn h m v.pairs v.found v.standing
   pub stop : v.found < v.pairs → GoodMark m v.found → ⊥
-  pub last : v.last ≡ last_of (listed m v.found)
-  pub count : v.count ≡ v.found
+  pub last_found : v.last_found ≡ last_of (standing_list m v.found)
+  pub entry_count : v.entry_count ≡ v.found
 
 -- a fault with the number n that names the block b and the entry k, if any, no trade and no rule
 pub record IsFault (n : ℕ) (b k : Option ℕ) (f : Fault) : Type 0 where
@@ -53,21 +53,21 @@ pub record IsFault (n : ℕ) (b k : Option ℕ) (f : Fault) : Type 0 where
 pub data HeaderRefused (h : Rulebook) (m : Medium) (f : Fault) : Type 0 where
   -- the device has no block
   no-block : m.size ≡ 0 → IsFault 11 (Some 0) None f → HeaderRefused h m f
-  no-header-call : 0 < m.size → m.left ≡ 0 → IsFault 13 (Some 0) None f → HeaderRefused h m f
-  unreadable-header : 0 < m.size → 0 < m.left → m.holds 0 ≡ None
+  no-header-call : 0 < m.size → m.calls_left ≡ 0 → IsFault 13 (Some 0) None f → HeaderRefused h m f
+  unreadable-header : 0 < m.size → 0 < m.calls_left → m.holds 0 ≡ None
       → IsFault 14 (Some 0) None f → HeaderRefused h m f
   -- block 0 is no header that a journal can have
-  no-header : 0 < m.left → (bs : List ℕ) → m.holds 0 ≡ Some bs
+  no-header : 0 < m.calls_left → (bs : List ℕ) → m.holds 0 ≡ Some bs
       → ((head : Header) → Proper head → header_bytes head ≢ bs)
       → IsFault 43 None None f → HeaderRefused h m f
   -- it is one of books of other kinds
-  other-kinds : 0 < m.left → (head : Header) → Proper head → m.holds 0 ≡ Some (header_bytes head)
-      → (head.register ≡ (h.kind securities).code → head.cash ≡ (h.kind cash).code → ⊥)
+  other-kinds : 0 < m.calls_left → (head : Header) → Proper head → m.holds 0 ≡ Some (header_bytes head)
+      → (head.register ≡ (h.book_kind securities).code → head.cash ≡ (h.book_kind cash).code → ⊥)
       → IsFault 44 None None f → HeaderRefused h m f
   -- it is one of more pairs than the device has blocks for
-  too-few-blocks : 0 < m.left → (head : Header) → Proper head
+  too-few-blocks : 0 < m.calls_left → (head : Header) → Proper head
       → m.holds 0 ≡ Some (header_bytes head)
-      → head.register ≡ (h.kind securities).code → head.cash ≡ (h.kind cash).code
+      → head.register ≡ (h.book_kind securities).code → head.cash ≡ (h.book_kind cash).code
       → m.size < 1 + 2 * head.pairs → IsFault 45 None None f → HeaderRefused h m f
 
 -- The fault of entry k, whose instruction x the rules refuse with r. It names the trade where the
@@ -83,19 +83,19 @@ pub record IsRuleFault (k : ℕ) (x : Instruction) (r : Refusal) (f : Fault) : T
 -- header, and two each of the entries before it.
 pub data EntryRefused (h : Rulebook) (m : Medium) (k : ℕ) (s : Standing) (f : Fault) : Type 0 where
   -- no call is left for the mark,
-  no-mark-call : m.left ≡ 1 + 2 * k
+  no-mark-call : m.calls_left ≡ 1 + 2 * k
       → IsFault 13 (Some (mark_at k)) (Some k) f → EntryRefused h m k s f
   -- or for the record after a good mark
-  no-record-call : GoodMark m k → m.left ≡ 2 + 2 * k
+  no-record-call : GoodMark m k → m.calls_left ≡ 2 + 2 * k
       → IsFault 13 (Some (record_at k)) (Some k) f → EntryRefused h m k s f
-  unreadable-record : GoodMark m k → 2 + 2 * k < m.left → m.holds (record_at k) ≡ None
+  unreadable-record : GoodMark m k → 2 + 2 * k < m.calls_left → m.holds (record_at k) ≡ None
       → IsFault 14 (Some (record_at k)) (Some k) f → EntryRefused h m k s f
   -- the block is the record of no instruction
-  malformed : GoodMark m k → 2 + 2 * k < m.left → (bs : List ℕ) → m.holds (record_at k) ≡ Some bs
+  malformed : GoodMark m k → 2 + 2 * k < m.calls_left → (bs : List ℕ) → m.holds (record_at k) ≡ Some bs
       → ((x : Instruction) → Fit x → record_bytes k x ≢ bs)
       → IsFault 46 None (Some k) f → EntryRefused h m k s f
   -- it is the record of an instruction that the rules refuse
-  rules-refuse : GoodMark m k → 2 + 2 * k < m.left → (x : Instruction)
+  rules-refuse : GoodMark m k → 2 + 2 * k < m.calls_left → (x : Instruction)
       → m.holds (record_at k) ≡ Some (record_bytes k x)
       → (r : Refusal) → answer h s x ≡ Err r → IsRuleFault k x r f → EntryRefused h m k s f
 
@@ -113,8 +113,8 @@ pub record FoundNothing (v : View) : Type 0 where
   pub standing : v.standing ≡ empty
   pub pairs : v.pairs ≡ 0
   pub found : v.found ≡ 0
-  pub last : v.last ≡ None
-  pub count : v.count ≡ 0
+  pub last_found : v.last_found ≡ None
+  pub entry_count : v.entry_count ≡ 0
 
 -- by the mode after the opening; none ends with an instruction half written
 abbrev pub Opens : Rulebook → Medium → View → Mode → Type 0
@@ -124,4 +124,4 @@ Opens h m v (Refused f) = FoundNothing v × (HeaderRefused h m f ⊎ ListRefused
 
 -- where there is something to be found, and the calls to read it, the opening is not refused
 abbrev pub Prompt : Rulebook → Medium → Mode → Type 0
-Prompt h m mode = (w : View) → FoundOn h m w → 1 + 2 * w.pairs ≤ m.left → mode ≡ Open
+Prompt h m mode = (w : View) → FoundOn h m w → 1 + 2 * w.pairs ≤ m.calls_left → mode ≡ Open

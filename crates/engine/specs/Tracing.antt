@@ -1,10 +1,10 @@
 -- Which calls an engine makes to its device. Assumes nothing.
 use Rattle.std.specs.Prelude.{ℕ, zero, suc, ◌+◌, cond, List, [], ◌∷◌, ◌++◌, take, Some, None, Ok, Err, Option, Result, nat_lt}
-use Rattle.answers.specs.declared.Fault.{Fault}
+use Rattle.refusals.specs.declared.Fault.{Fault}
 use Rattle.instruction.specs.declared.Instruction.{Instruction}
-use Rattle.book.specs.Rulings.{on_ok}
+use Rattle.refusals.specs.Answers.{if_ok}
 use Rattle.rulebook.specs.Rules.{Rulebook}
-use Rattle.device.specs.declared.TheConstants.{BLOCK}
+use Rattle.device.specs.declared.TheConstants.{BLOCK_SIZE}
 use Rattle.device.specs.Medium.{Medium}
 use Rattle.device.specs.Traces.{DeviceCall, reading, writing, syncing}
 use Rattle.journal.specs.Journal.{record_at, mark_at}
@@ -13,8 +13,8 @@ use Rattle.engine.specs.declared.engine.Recovered.{Recovered}
 use Rattle.engine.specs.declared.engine.Mode.{Mode}
 use Rattle.engine.specs.declared.engine.Mode.TheVariants.{Open, Down, Refused}
 use Rattle.engine.specs.View.{View}
-use Rattle.engine.specs.Opening.{opened}
-use Rattle.engine.specs.Instructing.{checked}
+use Rattle.engine.specs.Opening.{opening_view}
+use Rattle.engine.specs.Instructing.{check_answer}
 
 -- those of an entry: record and sync, mark and sync, up to the first that finds no call left
 abbrev pub entry_calls : ℕ → Instruction → ℕ → List DeviceCall
@@ -22,11 +22,11 @@ entry_calls k x left = take (left + 1) (writing (record_at k) (record_bytes k x)
 
 -- those of an instruction: none where a check refuses it
 abbrev pub instruct_calls : Rulebook → Instruction → View → List DeviceCall
-instruct_calls h x v = on_ok (checked h x v) (entry_calls v.count x v.medium.left) []
+instruct_calls h x v = if_ok (check_answer h x v) (entry_calls v.entry_count x v.medium.calls_left) []
 
 -- a read of a whole block
 abbrev pub block_read : ℕ → DeviceCall
-block_read b = reading b BLOCK
+block_read b = reading b BLOCK_SIZE
 
 -- the mark and the record of each of the first n entries, one entry after another
 unfoldable pub entry_reads : ℕ → List DeviceCall
@@ -65,4 +65,4 @@ opened_reads (Refused f) v = refused_reads f.entry
 -- no call left.
 abbrev pub opening_calls : Rulebook → Medium → List DeviceCall
 opening_calls h m =
-    let v = opened h m in take (m.left + 1) (block_read 0 ∷ opened_reads v.mode v)
+    let v = opening_view h m in take (m.calls_left + 1) (block_read 0 ∷ opened_reads v.mode v)

@@ -18,10 +18,10 @@ pub record View : Type 0 where
   pub pairs : ℕ
   -- entries that the opening found, and the last of them
   pub found : ℕ
-  pub last : Option Instruction
+  pub last_found : Option Instruction
   -- entries that stand
-  pub count : ℕ
+  pub entry_count : ℕ
 
 abbrev pub view : {D R C : Type 0} {d : device.Ghosts D} {r : book.Ghosts R} {c : book.Ghosts C} → (D → Medium) → Engine D R C d r c → View
 view m e =
-    record { mode = e.mode; medium = m e.device; standing = standing_of e.ledger; pairs = e.pairs; found = e.found.count; last = e.found.last; count = e.count }
+    record { mode = e.mode; medium = m e.device; standing = standing_of e.ledger; pairs = e.pairs; found = e.found.count; last_found = e.found.last; entry_count = e.count }

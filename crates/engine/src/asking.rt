@@ -2,16 +2,16 @@
 ghost use Rattle.std.specs.Prelude.{◌≡◌, IfOk, Ok};
 ghost use Rattle.rulebook.specs.Terms.{securities as in_securities, cash as in_cash};
 ghost use Rattle.ledger.specs.Rows.{state_question};
-ghost use Rattle.ledger.specs.View.{rulebook, holding_question};
+ghost use Rattle.ledger.specs.View.{rulebook_of, holding_question};
 ghost use Rattle.engine.specs.View.{view};
-ghost use Rattle.engine.specs.Slips.{contents, Judges};
+ghost use Rattle.engine.specs.ClosingSlip.{contents, HasVerdict};
 ghost use Rattle.engine.specs.Asking.{opening_answer, if_answering, presented};
 
 use crate::engine::{Engine, Mode};
 use crate::slip::{Slip, Verdict};
-use answers::{Fault, Refusal};
 use book::{Book, Holding};
 use device::Device;
+use refusals::{Fault, Refusal};
 use rulebook::State;
 
 impl<D: Device, R: Book, C: Book> Engine<D, R, C> {
@@ -35,7 +35,7 @@ impl<D: Device, R: Book, C: Book> Engine<D, R, C> {
     // What an account has of an item of the register.
     pub fn securities(&self, account: u16, item: u16) -> Result<Holding, Refusal>
         ensures { let v = view D.medium self.now in result ≡ if_answering v.mode
-            (holding_question (rulebook R.fixed C.fixed) v.standing in_securities account item) }
+            (holding_question (rulebook_of R.book_kind C.book_kind) v.standing in_securities account item) }
     {
         self.answering()?;
         self.ledger.securities(account, item)
@@ -44,7 +44,7 @@ impl<D: Device, R: Book, C: Book> Engine<D, R, C> {
     // What an account has of a currency.
     pub fn money(&self, account: u16, currency: u16) -> Result<Holding, Refusal>
         ensures { let v = view D.medium self.now in result ≡ if_answering v.mode
-            (holding_question (rulebook R.fixed C.fixed) v.standing in_cash account currency) }
+            (holding_question (rulebook_of R.book_kind C.book_kind) v.standing in_cash account currency) }
     {
         self.answering()?;
         self.ledger.money(account, currency)
@@ -59,7 +59,7 @@ impl<D: Device, R: Book, C: Book> Engine<D, R, C> {
 
     // How many entries stand.
     pub fn entries(&self) -> Result<u32, Refusal>
-        ensures { let v = view D.medium self.now in result ≡ if_answering v.mode (Ok v.count) }
+        ensures { let v = view D.medium self.now in result ≡ if_answering v.mode (Ok v.entry_count) }
     {
         self.answering()?;
         Ok(self.count)
@@ -76,7 +76,7 @@ impl<D: Device, R: Book, C: Book> Engine<D, R, C> {
     pub fn present(&self, slip: Slip) -> Result<Verdict, (Refusal, Slip)>
         ensures answer { result ≡ presented (view D.medium self.now) slip }
         ensures exact { let v = view D.medium self.now in
-            IfOk result (λ verdict. Judges (contents slip) v.found v.last verdict) }
+            IfOk result (λ verdict. HasVerdict (contents slip) v.found v.last_found verdict) }
     {
         match self.mode {
             Mode::Refused(_) => Err((Refusal::OpeningRefused, slip)),

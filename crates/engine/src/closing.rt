@@ -2,8 +2,8 @@
 ghost use Rattle.std.specs.Prelude.{◌≡◌};
 ghost use Rattle.rulebook.specs.Terms.{securities as in_securities, cash as in_cash};
 ghost use Rattle.engine.specs.View.{view};
-ghost use Rattle.engine.specs.Slips.{contents, IsOwed};
-ghost use Rattle.engine.specs.Asking.{closing};
+ghost use Rattle.engine.specs.ClosingSlip.{contents, IsOwed};
+ghost use Rattle.engine.specs.Asking.{closing_contents};
 
 use crate::engine::{Engine, Mode};
 use crate::slip::{Contents, Slip};
@@ -15,7 +15,7 @@ impl<D: Device, R: Book, C: Book> Engine<D, R, C> {
         ensures device { result.0 ≡ self.device }
         ensures register { R.holdings result.1 ≡ (view D.medium self).standing.book in_securities }
         ensures cash { C.holdings result.2 ≡ (view D.medium self).standing.book in_cash }
-        ensures slip { contents result.3 ≡ closing (view D.medium self) }
+        ensures slip { contents result.3 ≡ closing_contents (view D.medium self) }
         ensures owed { IsOwed result.3 }
     {
         let Engine {

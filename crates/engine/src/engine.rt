@@ -1,11 +1,11 @@
 // The engine: a device and a ledger under one journal.
 ghost use Rattle.std.specs.Prelude.{◌≤◌, ◌<◌, ◌*◌};
 
-use answers::Fault;
 use book::Book;
 use device::Device;
 use instruction::Instruction;
 use ledger::Ledger;
+use refusals::Fault;
 
 // How many entries a recovery found, and the last of them.
 #[derive(Clone, Copy, Debug, Default, PartialEq, Eq)]

@@ -1,9 +1,9 @@
 // The closing slip: plain numbers, owed until it is presented or filed.
 ghost use Rattle.std.specs.Prelude.{◌≡◌, true, is_some};
-ghost use Rattle.engine.specs.Slips.{contents, IsOwed, judged, Judges, number_of, verdict_place, PresentedApart, is_last};
+ghost use Rattle.engine.specs.ClosingSlip.{contents, IsOwed, slip_verdict, HasVerdict, number_of, verdict_place, PresentedApart, is_last};
 
-use answers::Place;
 use instruction::Instruction;
+use refusals::Place;
 
 // What a slip tells: the number of standing entries, and the instruction in hand.
 #[derive(Clone, Copy, Debug, PartialEq, Eq)]
@@ -71,7 +71,7 @@ impl Slip {
     }
 
     // Whether the slip tells anything.
-    pub fn known(&self) -> bool
+    pub fn is_known(&self) -> bool
         ensures { result ≡ is_some (contents self.now) }
     {
         self.holds.is_some()
@@ -87,8 +87,8 @@ impl Slip {
 
     // The verdict where so many entries were found, with this one the last.
     pub(crate) fn judge(self, found: u32, last: Option<Instruction>) -> Verdict
-        ensures value { result ≡ judged (contents self) found last }
-        ensures exact { Judges (contents self) found last result }
+        ensures value { result ≡ slip_verdict (contents self) found last }
+        ensures exact { HasVerdict (contents self) found last result }
     {
         let Some(holds) = self.file() else {
             return Verdict::Unknown;

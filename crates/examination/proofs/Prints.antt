@@ -1,21 +1,19 @@
 -- What the program prints: its device can be formatted, so a script gets its key unless it is too long; and that key is one.
 use Rattle.std.proofs.Common.{◌≡◌, ℕ, List, length, drop, Ok, Err, inl, inr, sym, refl, ap, ◌∙◌, subst, arith}
 use Rattle.std.proofs.lemmas.List.{length-replicate}
-use Rattle.answers.specs.declared.Refusal.TheVariants.{InputTooLong}
-use Rattle.answers.specs.declared.Fault.{Fault}
+use Rattle.refusals.specs.declared.Refusal.TheVariants.{InputTooLong}
+use Rattle.refusals.specs.declared.Fault.{Fault}
 use Rattle.book.specs.Holdings.{Holdings, nothing}
-use Rattle.ledger.specs.View.{by_side}
-use Rattle.device.specs.Images.{imaged}
+use Rattle.ledger.specs.View.{both_sides}
 use Rattle.simulated.specs.declared.state.Simulated.{Simulated}
-use Rattle.simulated.specs.Rows.{is_loose, shown}
-use Rattle.simulated.specs.Meaning.{image_of, meaning, state_of, Makes}
+use Rattle.simulated.specs.Meaning.{image_of, meaning, meaning_of, state_of, Makes}
 use Rattle.simulated.proofs.Kind.{fixed}
 use Rattle.journal.specs.Format.{format_answer}
-use Rattle.depository.proofs.Fixing.{Settled}
+use Rattle.depository.proofs.Determined.{IsDetermined}
 use Rattle.depository.proofs.OneAnswer.{one-answer}
 use Rattle.examination.specs.declared.answer.Answer.{Answer}
 use Rattle.depository.specs.declared.stop.Stop.{Stop}
-use Rattle.depository.specs.declared.stop.Stop.TheVariants.{Refused}
+use Rattle.depository.specs.declared.stop.Stop.TheVariants.{ByFault}
 use Rattle.examination.specs.Orders.{requests_in}
 use Rattle.examination.specs.Answers.{answers_for}
 use Rattle.examination.specs.Key.{Keyed, Stopped}
@@ -26,21 +24,21 @@ zeros-count : (n : ℕ) → length (zero_bytes n) ≡ n
 unfolding zero_bytes
 zeros-count n = length-replicate n 0
 
-formats-on : (image : List ℕ) (left : ℕ) → length image ≡ 65278 → left ≡ 1000000 → format_answer 63 (imaged 514 shown is_loose image left) ≡ Ok tt
+formats-on : (image : List ℕ) (left : ℕ) → length image ≡ 65278 → left ≡ 1000000 → format_answer 63 (meaning_of image left) ≡ Ok tt
 formats-on image left e el = rw (e, el) refl
 
 formats : (d : Simulated) → IsNew d → format_answer 63 (meaning d) ≡ Ok tt
-formats d n = formats-on (image_of d) d.rows.left (ap length n.image ∙ zeros-count 65278) n.calls
+formats d n = formats-on (image_of d) d.rows.calls_left (ap length n.image ∙ zeros-count 65278) n.calls
 
 pub prints-key : (d : Simulated) (r c : Holdings) (script : List ℕ) (answers shown : List Answer) (text : List ℕ) → IsNew d → r ≡ nothing → c ≡ nothing
-    → Keyed Makes meaning two_balances 4294967295 63 d (by_side r c) script answers → shown ≡ answers → text ≡ key_text 1 shown → Printed script text
+    → Keyed Makes meaning two_balances 4294967295 63 d (both_sides r c) script answers → shown ≡ answers → text ≡ key_text 1 shown → Printed script text
 prints-key d r c script answers shown text n er ec k es et =
-    let no-register = subst (λ z. Keyed Makes meaning two_balances 4294967295 63 d (by_side z c) script answers) er k in
-    let empty = subst (λ z. Keyed Makes meaning two_balances 4294967295 63 d (by_side nothing z) script answers) ec no-register in
+    let no-register = subst (λ z. Keyed Makes meaning two_balances 4294967295 63 d (both_sides z c) script answers) er k in
+    let empty = subst (λ z. Keyed Makes meaning two_balances 4294967295 63 d (both_sides nothing z) script answers) ec no-register in
     inl (record { device = d; new = n; answers = answers; keyed = empty; whole = empty.whole (let calls = n.calls in omega arith); is = et ∙ ap (key_text 1) es })
 
 -- the one refusal that can come
-pub prints-refusal : (d : Simulated) (script : List ℕ) (f : Fault) (stop : Stop) (text : List ℕ) → IsNew d → stop ≡ Refused f → Stopped 63 (meaning d) script stop → text ≡ refused_text f.refusal → Printed script text
+pub prints-refusal : (d : Simulated) (script : List ℕ) (f : Fault) (stop : Stop) (text : List ℕ) → IsNew d → stop ≡ ByFault f → Stopped 63 (meaning d) script stop → text ≡ refused_text f.refusal → Printed script text
 prints-refusal d script f stop text n es s et =
     elim (subst (λ z. Stopped 63 (meaning d) script z) es s) [
       | inl p ↦ let e : f.refusal ≡ InputTooLong = cc (p.1) in inr (p.0, et ∙ ap refused_text e)
@@ -51,7 +49,7 @@ prints-refusal d script f stop text n es s et =
 both : {a b : List ℕ} {m n : ℕ} → a ≡ b → m ≡ n → ◌≡◌ {A = List ℕ × ℕ} (a, m) (b, n)
 both p q = λ i. (p i, q i)
 
-settled : Settled Makes meaning state_of
+settled : IsDetermined Makes meaning state_of
 settled = record { fixed = fixed; meaning = λ d e q. ap (λ (s : List ℕ × ℕ). imaged 514 shown is_loose s.0 s.1) q }
 
 key-one : (script text other : List ℕ) → IsKey script text → IsKey script other → text ≡ other

@@ -1,11 +1,11 @@
 -- What the lines of a script are answered, from the replies to their calls.
 use Rattle.std.specs.Prelude.{◌≡◌, ◌-◌, true, List, [], ◌∷◌, length, drop, Ok, Err, Result, is_some, slice_index_or}
-use Rattle.answers.specs.declared.Refusal.{Refusal}
-use Rattle.answers.specs.declared.Fault.{Fault}
+use Rattle.refusals.specs.declared.Refusal.{Refusal}
+use Rattle.refusals.specs.declared.Fault.{Fault}
 use Rattle.script.specs.declared.Request.{Request}
 use Rattle.depository.specs.declared.calls.Reply.{Reply}
-use Rattle.depository.specs.declared.calls.Reply.TheVariants.{Done, Instructed, Opened, Told, Misfit}
-use Rattle.depository.specs.declared.calls.Opened.{Opened as OpenReply}
+use Rattle.depository.specs.declared.calls.Reply.TheVariants.{Done, ToInstruct, ToOpen, ToAsk, Misfit}
+use Rattle.depository.specs.declared.calls.OpenReply.{OpenReply}
 use Rattle.depository.specs.declared.calls.Fact.TheVariants.{Holding, State, Entries}
 use Rattle.examination.specs.declared.answer.Reopening.{Reopening}
 use Rattle.examination.specs.declared.answer.Answer.{Answer}
@@ -19,17 +19,17 @@ refused_by (Err f) = Err f.refusal
 
 -- what a key tells of an opening
 abbrev pub reopening_of : OpenReply → Reopening
-reopening_of o = record { answer = refused_by o.answer; found = o.found; presented = o.presented }
+reopening_of o = record { answer = refused_by o.answer; found = o.found; presented = o.slip_answer }
 
 abbrev pub answer_of : Reply → Answer
 answer_of Done = Accepted
-answer_of (Instructed (Ok u)) = Accepted
-answer_of (Instructed (Err f)) = Refused f.refusal
-answer_of (Opened o) = Reopened (reopening_of o)
-answer_of (Told (Ok (Holding f))) = Amounts f
-answer_of (Told (Ok (State s))) = Unasked
-answer_of (Told (Ok (Entries n))) = Unasked
-answer_of (Told (Err r)) = Refused r
+answer_of (ToInstruct (Ok u)) = Accepted
+answer_of (ToInstruct (Err f)) = Refused f.refusal
+answer_of (ToOpen o) = Reopened (reopening_of o)
+answer_of (ToAsk (Ok (Holding f))) = Amounts f
+answer_of (ToAsk (Ok (State s))) = Unasked
+answer_of (ToAsk (Ok (Entries n))) = Unasked
+answer_of (ToAsk (Err r)) = Refused r
 answer_of Misfit = Unasked
 
 -- what a line asks for is answered, and after a cut there is a slip and what it was answered

@@ -1,7 +1,7 @@
 -- The key of a script.
 use Rattle.std.specs.Prelude.{◌≡◌, ℕ, ◌+◌, ◌*◌, ◌<◌, ◌≤◌, ◌⊎◌, List, length, drop, Err}
 use Rattle.std.specs.List.{AllByRecursion}
-use Rattle.answers.specs.Faults.{fault}
+use Rattle.refusals.specs.Faults.{fault}
 use Rattle.book.specs.Holdings.{Holdings}
 use Rattle.rulebook.specs.Terms.{Side}
 use Rattle.rulebook.specs.Rules.{Rulebook}
@@ -12,10 +12,10 @@ use Rattle.journal.specs.Format.{format_answer}
 use Rattle.depository.specs.declared.calls.Reply.{Reply}
 use Rattle.depository.specs.Orders.{Order}
 use Rattle.depository.specs.Moments.{Moment}
-use Rattle.depository.specs.Law.{Survives}
+use Rattle.depository.specs.Survival.{Survives}
 use Rattle.examination.specs.declared.answer.Answer.{Answer}
 use Rattle.depository.specs.declared.stop.Stop.{Stop}
-use Rattle.depository.specs.declared.stop.Stop.TheVariants.{Refused, NoMemory}
+use Rattle.depository.specs.declared.stop.Stop.TheVariants.{ByFault, NoMemory}
 use Rattle.examination.specs.Orders.{requests_in, orders_in}
 use Rattle.examination.specs.Answers.{Whole, answers_for}
 
@@ -42,15 +42,15 @@ module _ {D : Type 0} (makes : D → DeviceCall → D → Type 0) (means : D →
     pub answers-are : answers ≡ answers_for (requests_in script) (drop 1 replies)
     pub count : length answers ≡ length (lines_of script)
     -- with calls enough for the format and the first opening
-    pub whole : 6 + 3 * pairs ≤ (means d).left → AllByRecursion Whole answers
+    pub whole : 6 + 3 * pairs ≤ (means d).calls_left → AllByRecursion Whole answers
 
 -- The device could not be formatted, by this fault, and no calls were given; or no memory was found.
 abbrev pub Unserved : ℕ → Medium → Stop → Type 0
-Unserved pairs m (Refused f) = format_answer pairs m ≡ Err f
+Unserved pairs m (ByFault f) = format_answer pairs m ≡ Err f
 Unserved pairs m (NoMemory e) = Unit {0}
 
 abbrev pub too_long : Stop
-too_long = Refused (fault 73)
+too_long = ByFault (fault 73)
 
 -- A script that got none: it is too long, and nothing was done; or what was to be done first is
 -- refused; or memory was wanting.

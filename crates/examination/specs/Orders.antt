@@ -1,26 +1,26 @@
 -- What the lines of a script ask of a depository.
 use Rattle.std.specs.Prelude.{ℕ, List, [], ◌∷◌, map, Ok, Err, Result}
 use Rattle.std.specs.List.{flat_map}
-use Rattle.answers.specs.declared.Refusal.{Refusal}
+use Rattle.refusals.specs.declared.Refusal.{Refusal}
 use Rattle.script.specs.declared.Request.{Request}
 use Rattle.script.specs.declared.Request.TheVariants.{Instruct, Register, Cash, Cut}
 use Rattle.script.specs.Requests.{request_in, remains_of}
 use Rattle.script.specs.Feeds.{lines_of}
-use Rattle.depository.specs.Orders.{Order, to_instruct, to_close, to_restart, to_open, to_ask}
+use Rattle.depository.specs.Orders.{Order, instruct_order, close_order, restart_order, open_order, ask_order}
 use Rattle.depository.specs.declared.calls.Question.TheVariants.{Securities, Money}
 
 -- an instruction, or a question, is one call; a cut is a close, a restart and an open; a line that is
 -- refused asks for nothing
 abbrev pub orders_of : Result Request Refusal → List Order
-orders_of (Ok (Instruct x)) = to_instruct x ∷ []
-orders_of (Ok (Register p)) = to_ask (Securities p.account p.item) ∷ []
-orders_of (Ok (Cash p)) = to_ask (Money p.account p.item) ∷ []
-orders_of (Ok (Cut c)) = to_close ∷ to_restart c.calls (remains_of c) ∷ to_open ∷ []
+orders_of (Ok (Instruct x)) = instruct_order x ∷ []
+orders_of (Ok (Register p)) = ask_order (Securities p.account p.item) ∷ []
+orders_of (Ok (Cash p)) = ask_order (Money p.account p.item) ∷ []
+orders_of (Ok (Cut c)) = close_order ∷ restart_order c.calls (remains_of c) ∷ open_order ∷ []
 orders_of (Err r) = []
 
 -- an open, and then what each line asks for
 abbrev pub orders_for : List (Result Request Refusal) → List Order
-orders_for requests = to_open ∷ flat_map orders_of requests
+orders_for requests = open_order ∷ flat_map orders_of requests
 
 -- what each line of a script is read as
 abbrev pub requests_in : List ℕ → List (Result Request Refusal)

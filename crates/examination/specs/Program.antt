@@ -1,12 +1,12 @@
 -- The device and the books on which the program answers a script.
 use Rattle.std.specs.Prelude.{◌≡◌, ℕ, ◌<◌, ◌⊎◌, List, length, replicate}
 use Rattle.std.specs.List.{AllByRecursion}
-use Rattle.answers.specs.Numbers.{numbered}
+use Rattle.refusals.specs.Numbers.{numbered}
 use Rattle.book.specs.Holdings.{Holdings, nothing}
 use Rattle.balances.specs.Rows.{balances_kind}
 use Rattle.rulebook.specs.Terms.{Side}
 use Rattle.rulebook.specs.Rules.{Rulebook}
-use Rattle.ledger.specs.View.{rulebook, by_side}
+use Rattle.ledger.specs.View.{rulebook_of, both_sides}
 use Rattle.simulated.specs.declared.state.Simulated.{Simulated}
 use Rattle.simulated.specs.Meaning.{image_of, meaning, Makes}
 use Rattle.examination.specs.declared.answer.Answer.{Answer}
@@ -20,15 +20,15 @@ zero_bytes n = replicate n 0
 -- a simulated device over 127 blocks of zeros, with 1,000,000 calls
 pub record IsNew (d : Simulated) : Type 0 where
   pub image : image_of d ≡ zero_bytes 65278
-  pub calls : d.rows.left ≡ 1000000
+  pub calls : d.rows.calls_left ≡ 1000000
 
 -- two books of balances
 abbrev pub two_balances : Rulebook
-two_balances = rulebook balances_kind balances_kind
+two_balances = rulebook_of balances_kind balances_kind
 
 -- with nothing in them
 abbrev pub no_holdings : Side → Holdings
-no_holdings = by_side nothing nothing
+no_holdings = both_sides nothing nothing
 
 -- a key of a script on such a device, formatted with 63 pairs for these books, which a restart gives
 -- up to 4,294,967,295 calls

@@ -1,9 +1,9 @@
 -- The key as text.
 use Rattle.std.specs.Prelude.{ℕ, ◌+◌, List, [], ◌∷◌, ◌++◌, Some, None, Option, Result, decimal}
-use Rattle.answers.specs.declared.Refusal.{Refusal}
-use Rattle.answers.specs.Numbers.{number_of, answer_number}
+use Rattle.refusals.specs.declared.Refusal.{Refusal}
+use Rattle.refusals.specs.Numbers.{number_of, answer_number}
 use Rattle.engine.specs.declared.slip.Verdict.{Verdict}
-use Rattle.engine.specs.Slips.{presented_number}
+use Rattle.engine.specs.ClosingSlip.{presented_number}
 use Rattle.examination.specs.declared.answer.Answer.{Answer}
 use Rattle.examination.specs.declared.answer.Answer.TheVariants.{Accepted, Amounts, Reopened, Refused, Unasked}
 

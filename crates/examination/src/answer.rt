@@ -2,10 +2,10 @@
 ghost use Rattle.std.specs.Prelude.{◌≡◌};
 ghost use Rattle.examination.specs.Answers.{answer_of, reopening_of};
 
-use answers::Refusal;
 use book::Holding;
-use depository::{Fact, Opened, Reply};
+use depository::{Fact, OpenReply, Reply};
 use engine::Verdict;
+use refusals::Refusal;
 
 // What an opening and the last slip answered, of which a key tells no fault but its number.
 #[derive(Clone, Copy)]
@@ -15,14 +15,14 @@ pub struct Reopening {
     pub presented: Option<Result<Verdict, Refusal>>,
 }
 
-impl From<Opened> for Reopening {
+impl From<OpenReply> for Reopening {
     ghost from_gives = { λ opened reopening. reopening ≡ reopening_of opened };
 
-    fn from(opened: Opened) -> Reopening {
+    fn from(opened: OpenReply) -> Reopening {
         Reopening {
             answer: opened.answer.map_err(|fault| fault.refusal),
             found: opened.found,
-            presented: opened.presented,
+            presented: opened.slip_answer,
         }
     }
 }
@@ -45,12 +45,12 @@ impl From<Reply> for Answer {
 
     fn from(reply: Reply) -> Answer {
         match reply {
-            Reply::Done | Reply::Instructed(Ok(())) => Answer::Accepted,
-            Reply::Instructed(Err(fault)) => Answer::Refused(fault.refusal),
-            Reply::Opened(opened) => Answer::Reopened(opened.into()),
-            Reply::Told(Ok(Fact::Holding(held))) => Answer::Amounts(held),
-            Reply::Told(Ok(_)) | Reply::Misfit => Answer::Unasked,
-            Reply::Told(Err(refusal)) => Answer::Refused(refusal),
+            Reply::Done | Reply::ToInstruct(Ok(())) => Answer::Accepted,
+            Reply::ToInstruct(Err(fault)) => Answer::Refused(fault.refusal),
+            Reply::ToOpen(opened) => Answer::Reopened(opened.into()),
+            Reply::ToAsk(Ok(Fact::Holding(held))) => Answer::Amounts(held),
+            Reply::ToAsk(Ok(_)) | Reply::Misfit => Answer::Unasked,
+            Reply::ToAsk(Err(refusal)) => Answer::Refused(refusal),
         }
     }
 }

@@ -2,7 +2,7 @@
 #![tactic(auto)]
 
 ghost use Rattle.std.specs.Prelude.{◌≡◌, ◌≤◌, MatchResult, Err, length, map, vec_capacity};
-ghost use Rattle.ledger.specs.View.{rulebook, by_side};
+ghost use Rattle.ledger.specs.View.{rulebook_of, both_sides};
 ghost use Rattle.journal.specs.Format.{format_answer};
 ghost use Rattle.depository.specs.Orders.{order};
 ghost use Rattle.examination.specs.Key.{Replied, Keyed, Stopped};
@@ -13,13 +13,13 @@ mod program;
 pub mod text;
 
 pub use answer::{Answer, Reopening};
-use answers::{Fault, Refusal};
 use book::Book;
 pub use depository::Stop;
 use depository::{Call, Reply, serve};
 use device::{Device, PoweredDevice};
 use lines::{answers_for, calls_for, read_requests};
 pub use program::examine;
+use refusals::{Fault, Refusal};
 use std::alloc::Global;
 
 // The most bytes that a script may have.
@@ -36,9 +36,9 @@ fn replies_to<D: PoweredDevice + Drop, R: Book + Drop, C: Book + Drop>(
     replies: &mut Vec<Reply>,
 ) -> Result<(), Fault>
     requires room { length calls.now ≤ vec_capacity replies.old }
-    ensures { let means = D.Device.medium in let books = by_side (R.holdings register) (C.holdings cash) in
+    ensures { let means = D.Device.medium in let books = both_sides (R.holdings register) (C.holdings cash) in
         MatchResult result
-        (λ _. Replied D.makes means (rulebook R.fixed C.fixed) D.PoweredDevice.most pairs device books
+        (λ _. Replied D.makes means (rulebook_of R.book_kind C.book_kind) D.PoweredDevice.most_calls pairs device books
         (map order calls.now) replies.new.items)
         (λ fault. format_answer pairs (means device) ≡ Err fault) }
 {
@@ -46,7 +46,7 @@ fn replies_to<D: PoweredDevice + Drop, R: Book + Drop, C: Book + Drop>(
     let _ = depository.finish();
     match served {
         Ok(()) => Ok(()),
-        Err(Stop::Refused(fault)) => Err(fault),
+        Err(Stop::ByFault(fault)) => Err(fault),
         Err(Stop::NoMemory(_)) => unreachable!(),
     }
 }
@@ -61,13 +61,13 @@ pub fn answer_script<D: PoweredDevice + Drop, R: Book + Drop, C: Book + Drop>(
     cash: C,
     script: &[u8],
 ) -> Result<Vec<Answer>, Stop>
-    ensures { let means = D.Device.medium in let books = by_side (R.holdings register) (C.holdings cash) in
+    ensures { let means = D.Device.medium in let books = both_sides (R.holdings register) (C.holdings cash) in
         MatchResult result
-        (λ answers. Keyed D.makes means (rulebook R.fixed C.fixed) D.PoweredDevice.most pairs device books script.now answers.items)
+        (λ answers. Keyed D.makes means (rulebook_of R.book_kind C.book_kind) D.PoweredDevice.most_calls pairs device books script.now answers.items)
         (λ stop. Stopped pairs (means device) script.now stop) }
 {
     if script.len() > LONGEST {
-        return Err(Stop::Refused(Refusal::InputTooLong.into()));
+        return Err(Stop::ByFault(Refusal::InputTooLong.into()));
     }
     let requests = read_requests(heap, script)?;
     let calls = calls_for(heap, requests.as_slice())?;
@@ -82,7 +82,7 @@ pub fn answer_script<D: PoweredDevice + Drop, R: Book + Drop, C: Book + Drop>(
         &mut replies,
     );
     if let Err(fault) = served {
-        return Err(Stop::Refused(fault));
+        return Err(Stop::ByFault(fault));
     }
     answers_for(requests.as_slice(), replies.as_slice(), &mut answers);
     Ok(answers)

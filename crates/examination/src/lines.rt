@@ -5,8 +5,8 @@ ghost use Rattle.examination.specs.Orders.{orders_of, orders_for, requests_in};
 ghost use Rattle.examination.specs.Answers.{line_answer, answers_for};
 
 use crate::answer::Answer;
-use answers::Refusal;
 use depository::{Call, Question, Reply};
+use refusals::Refusal;
 use script::{Lines, Request, read_line};
 use std::alloc::{AllocError, Global};
 
@@ -41,7 +41,7 @@ fn add_calls<'a>(calls: &mut Vec<Call<'a>>, request: &'a Read) -> Result<(), All
         Ok(Request::Cut(cut)) => {
             calls.push(Call::Close)?;
             calls.push(Call::Restart {
-                calls: cut.calls,
+                calls_left: cut.calls,
                 remains: cut.remains.as_slice(),
             })?;
             calls.push(Call::Open)?;

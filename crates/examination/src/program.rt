@@ -50,7 +50,7 @@ pub fn examine(heap: Global, script: &[u8]) -> Result<String, AllocError>
     let cash = new_book(heap)?;
     match answer_script(heap, device, PAIRS, register, cash, script) {
         Ok(answers) => key_text(heap, answers.as_slice()),
-        Err(Stop::Refused(fault)) => refusal_text(heap, fault.refusal),
+        Err(Stop::ByFault(fault)) => refusal_text(heap, fault.refusal),
         Err(Stop::NoMemory(error)) => Err(error),
     }
 }

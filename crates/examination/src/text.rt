@@ -1,12 +1,12 @@
 // The key as text. Functions, and no `Display`, since a contract says which bytes each text is.
 ghost use Rattle.std.specs.Prelude.{◌≡◌, IfOk, string_bytes};
-ghost use Rattle.engine.specs.Slips.{presented_number};
+ghost use Rattle.engine.specs.ClosingSlip.{presented_number};
 ghost use Rattle.examination.specs.Texts.{line_text, key_text, refused_text};
 ghost use Rattle.examination.specs.declared.answer.Answer.TheVariants.{Reopened};
 
 use crate::answer::{Answer, Reopening};
-use answers::{Refusal, answer_number};
 use engine::Verdict;
+use refusals::{Refusal, answer_number};
 use std::alloc::{AllocError, Global};
 
 fn presented_number(presented: Result<Verdict, Refusal>) -> u8

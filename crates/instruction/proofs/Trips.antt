@@ -2,9 +2,9 @@
 use Rattle.std.proofs.Common.{◌≡◌, ℕ, zero, suc, ◌+◌, ◌/◌, ◌%◌, ◌^◌, ◌<◌, Bool, true, false, cond, ◌&&◌, eqb, List, ◌∷◌, ◌++◌, length, get_or, Ok, Err, sym, refl, ap, ◌∙◌, subst, pow-suc, arith}
 use Rattle.std.proofs.Math.Nat.{div-div-eq-div-mul, div-one, mul_comm}
 use Rattle.std.proofs.lemmas.Bool.{eqb-true, and_parts}
-use Rattle.little_endian.specs.Little.{bytes, part}
+use Rattle.little_endian.specs.Little.{le_bytes, bytes_from}
 use Rattle.little_endian.proofs.Widths.{le-bytes, part-back, part-whole}
-use Rattle.answers.specs.declared.Refusal.TheVariants.{Malformed}
+use Rattle.refusals.specs.declared.Refusal.TheVariants.{Malformed}
 use Rattle.instruction.specs.declared.Instruction.{Instruction}
 use Rattle.instruction.specs.Layout.{bytes_of, instruction_in, fields, unused_zero, IsInstruction, Lies, LaidOut, Reads, Fit}
 
@@ -31,7 +31,7 @@ laid-back bs h s =
     let n = part-back 12 4 bs h in
     let y = part-back 16 8 bs h in
     let m = part-back 24 8 bs h in
-    let e : bytes_of (fields bs) ≡ part 0 32 bs = λ k. get_or bs 0 0 ∷ z1 k ∷ (a k ++ (b k ++ (t k ++ (u k ++ (z10 k ∷ z11 k ∷ (n k ++ (y k ++ m k))))))) in
+    let e : bytes_of (fields bs) ≡ bytes_from 0 32 bs = λ k. get_or bs 0 0 ∷ z1 k ∷ (a k ++ (b k ++ (t k ++ (u k ++ (z10 k ∷ z11 k ∷ (n k ++ (y k ++ m k))))))) in
     e ∙ sym (part-whole 32 bs s.long)
 
 is-instruction : (bs : List ℕ) → (eqb (length bs) 32 && unused_zero bs) ≡ true → IsInstruction bs
@@ -42,20 +42,20 @@ is-instruction bs e =
     record { long = eqb-true _ _ p.0; one = eqb-true _ _ q.0; ten = eqb-true _ _ r.0; eleven = eqb-true _ _ r.1 }
 
 -- a number written at a place lies there
-byte-at : (w n k : ℕ) → k < w → get_or (bytes w n) k 0 ≡ (n / (2 ^ 8) ^ k) % 2 ^ 8
+byte-at : (w n k : ℕ) → k < w → get_or (le_bytes w n) k 0 ≡ (n / (2 ^ 8) ^ k) % 2 ^ 8
 byte-at zero n k l = absurd (omega arith)
 byte-at (suc w) n zero l = ap (λ m. m % 256) (sym (div-one n))
 byte-at (suc w) n (suc k) l =
     byte-at w (n / 256) k (omega arith) ∙ ap (λ m. m % 256) (div-div-eq-div-mul n 256 (256 ^ k) ∙ ap (λ m. n / m) (mul_comm 256 (256 ^ k) ∙ sym (pow-suc 256 k)))
 
-part-at : (bs : List ℕ) (at w k : ℕ) → k < w → get_or (part at w bs) k 0 ≡ get_or bs (at + k) 0
+part-at : (bs : List ℕ) (at w k : ℕ) → k < w → get_or (bytes_from at w bs) k 0 ≡ get_or bs (at + k) 0
 part-at bs at zero k l = absurd (omega arith)
 part-at bs at (suc w) zero l = ap (λ p. get_or bs p 0) (omega arith)
 part-at bs at (suc w) (suc k) l =
     let e : suc at + k ≡ at + suc k = omega arith in
     part-at bs (suc at) w k (omega arith) ∙ ap (λ p. get_or bs p 0) e
 
-lies : (bs : List ℕ) (at w n : ℕ) → part at w bs ≡ bytes w n → Lies bs at w n
+lies : (bs : List ℕ) (at w n : ℕ) → bytes_from at w bs ≡ le_bytes w n → Lies bs at w n
 lies bs at w n e k l = sym (part-at bs at w k l) ∙ ap (λ t. get_or t k 0) e ∙ byte-at w n k l
 
 pub laid-out : (i : Instruction) → LaidOut (bytes_of i) i

@@ -1,8 +1,8 @@
 -- An instruction as 32 bytes, both ways. Assumes nothing.
 use Rattle.std.specs.Prelude.{◌≡◌, ℕ, ◌+◌, ◌/◌, ◌%◌, ◌^◌, ◌<◌, Bool, cond, ◌&&◌, List, ◌∷◌, ◌++◌, length, Ok, Err, Result, ◌==◌, slice_index, slice_index_or}
-use Rattle.little_endian.specs.Little.{le, bytes, part}
-use Rattle.answers.specs.declared.Refusal.{Refusal}
-use Rattle.answers.specs.Numbers.{numbered, number_of}
+use Rattle.little_endian.specs.Little.{le_number, le_bytes, bytes_from}
+use Rattle.refusals.specs.declared.Refusal.{Refusal}
+use Rattle.refusals.specs.Numbers.{numbered, number_of}
 use Rattle.instruction.specs.declared.Kind.{Kind}
 use Rattle.instruction.specs.declared.Instruction.{Instruction}
 use Rattle.instruction.specs.Kinds.{code_of}
@@ -28,23 +28,23 @@ of_kind k = on_trade k 0
 -- bytes each, bytes 10 and 11 zero, the trade in four bytes, the quantity and the amount in eight each
 abbrev pub bytes_of : Instruction → List ℕ
 bytes_of i =
-    i.kind ∷ 0 ∷ (bytes 2 i.account ++ (bytes 2 i.counterparty ++ (bytes 2 i.item
-    ++ (bytes 2 i.currency ++ (0 ∷ 0 ∷ (bytes 4 i.trade ++ (bytes 8 i.quantity ++ bytes 8 i.amount)))))))
+    i.kind ∷ 0 ∷ (le_bytes 2 i.account ++ (le_bytes 2 i.counterparty ++ (le_bytes 2 i.item
+    ++ (le_bytes 2 i.currency ++ (0 ∷ 0 ∷ (le_bytes 4 i.trade ++ (le_bytes 8 i.quantity ++ le_bytes 8 i.amount)))))))
 
 -- the number in the w bytes from place `at` on
-abbrev pub field : ℕ → ℕ → List ℕ → ℕ
-field at w bs = le (part at w bs)
+abbrev pub number_at : ℕ → ℕ → List ℕ → ℕ
+number_at at w bs = le_number (bytes_from at w bs)
 
 abbrev pub fields : List ℕ → Instruction
 fields bs = record {
   kind = slice_index bs 0;
-  account = field 2 2 bs;
-  counterparty = field 4 2 bs;
-  item = field 6 2 bs;
-  currency = field 8 2 bs;
-  trade = field 12 4 bs;
-  quantity = field 16 8 bs;
-  amount = field 24 8 bs;
+  account = number_at 2 2 bs;
+  counterparty = number_at 4 2 bs;
+  item = number_at 6 2 bs;
+  currency = number_at 8 2 bs;
+  trade = number_at 12 4 bs;
+  quantity = number_at 16 8 bs;
+  amount = number_at 24 8 bs;
 }
 
 abbrev pub unused_zero : List ℕ → Bool

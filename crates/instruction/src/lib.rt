@@ -3,10 +3,10 @@
 
 ghost use Rattle.std.specs.Prelude.{◌≡◌, ◌+◌, ◌≤◌, length, Ok};
 ghost use Rattle.instruction.specs.Kinds.{code_of, Decodes, KindsAndCodes};
-ghost use Rattle.instruction.specs.Layout.{of_kind, on_trade, bytes_of, instruction_in, field, LaidOut, Reads};
+ghost use Rattle.instruction.specs.Layout.{of_kind, on_trade, bytes_of, instruction_in, number_at, LaidOut, Reads};
 
-use answers::Refusal;
 use little_endian::LittleEndian;
+use refusals::Refusal;
 
 // What an instruction asks for.
 #[derive(Clone, Copy, Debug, PartialEq, Eq)]
@@ -133,7 +133,7 @@ impl Instruction {
 // The number in the N bytes from a place on.
 fn field<T: LittleEndian<N>, const N: usize>(b: &[u8], at: usize) -> T
     requires { at + N ≤ length b.now }
-    ensures { T.value result ≡ field at N b.now }
+    ensures { T.value result ≡ number_at at N b.now }
 {
     let mut bytes = [0; N];
     bytes.copy_from_slice(&b[at..at + N]);

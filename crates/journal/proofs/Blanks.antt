@@ -1,7 +1,7 @@
 -- Zeros in place of each mark, one after another, and a sync.
 use Rattle.std.proofs.Common.{◌≡◌, ℕ, ◌+◌, ◌*◌, ◌<◌, ◌≤◌, Bool, true, false, Some, Ok, Err, sym, refl, ◌∙◌, subst, inl, inr, arith}
 use Rattle.std.proofs.lemmas.Bool.{cases_eq}
-use Rattle.answers.specs.declared.Fault.{Fault}
+use Rattle.refusals.specs.declared.Fault.{Fault}
 use Rattle.device.specs.Medium.{Medium}
 use Rattle.device.specs.Calls.{Answer, Write, Sync}
 use Rattle.device.proofs.Answered.{write-passed, write-refused, sync-passed, sync-refused}
@@ -12,7 +12,7 @@ use Rattle.journal.specs.Format.{Unmarked, Blanked}
 -- the marks before k are zeros, and each write was accepted
 pub record Blanking (k : ℕ) (m m' : Medium) : Type 0 where
   pub size : m'.size ≡ m.size
-  pub left : m'.left + k ≡ m.left
+  pub calls_left : m'.calls_left + k ≡ m.calls_left
   pub holds : (b : ℕ) → Unmarked k b → m'.holds b ≡ m.holds b
   pub loose : (b : ℕ) → Unmarked k b → m'.loose b ≡ m.loose b
   pub written : (j : ℕ) → j < k → m'.holds (mark_at j) ≡ Some zeros
@@ -25,7 +25,7 @@ later : (k j : ℕ) → k ≤ j → Unmarked k (mark_at j)
 later k j l i h e = omega arith
 
 pub none-blank : (m : Medium) → Blanking 0 m m
-none-blank m = record { size = refl; left = omega arith; holds = λ b u. refl; loose = λ b u. refl; written = λ j h. absurd (omega arith) }
+none-blank m = record { size = refl; calls_left = omega arith; holds = λ b u. refl; loose = λ b u. refl; written = λ j h. absurd (omega arith) }
 
 module _ {k : ℕ} {m m₁ m₂ : Medium} (s : Blanking k m m₁) where
   pub one-more : Write m₁ m₂ (mark_at k) zeros (Ok tt) → Blanking (k + 1) m m₂
@@ -34,7 +34,7 @@ module _ {k : ℕ} {m m₁ m₂ : Medium} (s : Blanking k m m₁) where
       let calls = p.calls in
       record {
         size = w.elsewhere.size ∙ s.size;
-        left = omega (arith, w.left, s.left, calls);
+        calls_left = omega (arith, w.calls_left, s.calls_left, calls);
         holds = λ b u. w.elsewhere.holds b (u k (omega arith)) ∙ s.holds b (fewer (omega arith) u);
         loose = λ b u. w.elsewhere.loose b (u k (omega arith)) ∙ s.loose b (fewer (omega arith) u);
         written = λ j h.
@@ -51,14 +51,14 @@ module _ {k : ℕ} {m m₁ m₂ : Medium} (s : Blanking k m m₁) where
       let none = r.1 in
       record {
         size = w.elsewhere.size ∙ s.size;
-        left = omega (arith, w.left, none, s.left);
+        calls_left = omega (arith, w.calls_left, none, s.calls_left);
         holds = λ b u. w.elsewhere.holds b (u k l) ∙ s.holds b (fewer (omega arith) u);
         loose = λ b u h. w.elsewhere.loose b (u k l) ∙ s.loose b (fewer (omega arith) u) ∙ h;
-        written = λ j h i. w.elsewhere.holds (mark_at j) (omega (arith, s.left, none)) ∙ s.written j (omega (arith, s.left, none));
-        unreached = λ j h i. w.elsewhere.holds (mark_at j) (omega (arith, s.left, none)) ∙ s.holds (mark_at j) (later k j (omega (arith, s.left, none)));
+        written = λ j h i. w.elsewhere.holds (mark_at j) (omega (arith, s.calls_left, none)) ∙ s.written j (omega (arith, s.calls_left, none));
+        unreached = λ j h i. w.elsewhere.holds (mark_at j) (omega (arith, s.calls_left, none)) ∙ s.holds (mark_at j) (later k j (omega (arith, s.calls_left, none)));
         unreached-firm = λ j h i f.
-            w.elsewhere.loose (mark_at j) (omega (arith, s.left, none)) ∙ s.loose (mark_at j) (later k j (omega (arith, s.left, none))) ∙ f;
-        firm = λ h. absurd (omega (arith, s.left, none));
+            w.elsewhere.loose (mark_at j) (omega (arith, s.calls_left, none)) ∙ s.loose (mark_at j) (later k j (omega (arith, s.calls_left, none))) ∙ f;
+        firm = λ h. absurd (omega (arith, s.calls_left, none));
       }
 
 not-loose : (a b : Bool) → (a ≡ true → b ≡ true) → b ≡ false → a ≡ false
@@ -72,13 +72,13 @@ module _ {pairs : ℕ} {m m₁ m₂ : Medium} (s : Blanking pairs m m₁) where
       let none = (sync-refused w).1 in
       record {
         size = w.size ∙ s.size;
-        left = omega (arith, w.left, none, s.left);
+        calls_left = omega (arith, w.calls_left, none, s.calls_left);
         holds = λ b u. w.holds b ∙ s.holds b u;
         loose = λ b u h. not-loose (m₂.loose b) (m₁.loose b) (w.loose b) (s.loose b u ∙ h);
         written = λ j h i. w.holds (mark_at j) ∙ s.written j h;
-        unreached = λ j h i. absurd (omega (arith, s.left));
-        unreached-firm = λ j h i f. absurd (omega (arith, s.left));
-        firm = λ h. absurd (omega (arith, s.left, none));
+        unreached = λ j h i. absurd (omega (arith, s.calls_left));
+        unreached-firm = λ j h i f. absurd (omega (arith, s.calls_left));
+        firm = λ h. absurd (omega (arith, s.calls_left, none));
       }
 
   synced : Sync m₁ m₂ (Ok tt) → Blanked pairs m m₂
@@ -86,12 +86,12 @@ module _ {pairs : ℕ} {m m₁ m₂ : Medium} (s : Blanking pairs m m₁) where
       let calls = sync-passed w in
       record {
         size = w.size ∙ s.size;
-        left = omega (arith, w.left, calls, s.left);
+        calls_left = omega (arith, w.calls_left, calls, s.calls_left);
         holds = λ b u. w.holds b ∙ s.holds b u;
         loose = λ b u h. w.loose b;
         written = λ j h i. w.holds (mark_at j) ∙ s.written j h;
-        unreached = λ j h i. absurd (omega (arith, s.left));
-        unreached-firm = λ j h i f. absurd (omega (arith, s.left));
+        unreached = λ j h i. absurd (omega (arith, s.calls_left));
+        unreached-firm = λ j h i f. absurd (omega (arith, s.calls_left));
         firm = λ h b. w.loose b;
       }
 

@@ -1,15 +1,15 @@
 -- The blocks of a journal have their numbers where they belong, and stand where they belong.
 use Rattle.std.proofs.Common.{◌≡◌, ℕ, zero, suc, ◌+◌, ◌-◌, ◌*◌, ◌/◌, ◌%◌, ◌^◌, ◌<◌, List, [], ◌∷◌, ◌++◌, length, get_or, replicate, refl, ap, ◌∙◌, arith}
 use Rattle.std.proofs.lemmas.List.{get_or-append_right, get_or_append_left}
-use Rattle.little_endian.specs.Little.{le, bytes}
+use Rattle.little_endian.specs.Little.{le_number, le_bytes}
 use Rattle.little_endian.proofs.Widths.{le-bytes}
 use Rattle.device.specs.Medium.{Medium}
 use Rattle.instruction.specs.declared.Instruction.{Instruction}
 use Rattle.instruction.specs.Layout.{bytes_of}
 use Rattle.journal.specs.declared.header.Header.{Header}
 use Rattle.journal.specs.Blocks.{zeros, header_bytes, record_bytes, mark_bytes}
-use Rattle.journal.specs.Journal.{Entered}
-use Rattle.journal.specs.Format.{header_for, Formatted}
+use Rattle.journal.specs.Journal.{WritesEntry}
+use Rattle.journal.specs.Format.{header_for_kinds, Formats}
 use Rattle.journal.specs.Places.{ZeroFrom, HeaderPlaces, RecordPlaces, MarkPlaces, FormatPlaces, EntryPlaces}
 
 -- a read of zeros, and past their end
@@ -24,7 +24,7 @@ zero-from xs n w l i h = get_or-append_right xs (replicate w 0) n i 0 l h ∙ ze
 
 -- four bytes of a number have it
 four-of : (n : ℕ) → n < 2 ^ 32 → n % 256 + 2 ^ 8 * (n / 256 % 256) + 2 ^ 16 * (n / 256 / 256 % 256) + 2 ^ 24 * (n / 256 / 256 / 256 % 256) ≡ n
-four-of n l = let e : le (bytes 4 n) ≡ n = le-bytes 4 n l in omega (arith, e)
+four-of n l = let e : le_number (le_bytes 4 n) ≡ n = le-bytes 4 n l in omega (arith, e)
 
 pub mark-placed : (k : ℕ) → k < 2 ^ 32 → MarkPlaces k (mark_bytes k)
 mark-placed k l =
@@ -32,7 +32,7 @@ mark-placed k l =
       long = refl;
       entry = four-of k l;
       complement = omega (arith, four-of (4294967295 - k) (omega arith));
-      rest = zero-from (bytes 4 k ++ bytes 4 (4294967295 - k)) 8 248 refl;
+      rest = zero-from (le_bytes 4 k ++ le_bytes 4 (4294967295 - k)) 8 248 refl;
     }
 
 pub record-placed : (k : ℕ) (x : Instruction) → k < 2 ^ 32 → RecordPlaces k x (record_bytes k x)
@@ -43,9 +43,9 @@ record-placed k x l =
       count = refl;
       instruction = λ i h.
           let same : 8 + i - 8 ≡ i = omega arith in
-          get_or-append_right (bytes 4 k ++ (1 ∷ 0 ∷ 0 ∷ 0 ∷ [])) (bytes_of x ++ replicate 216 0) 8 (8 + i) 0 refl (omega arith)
+          get_or-append_right (le_bytes 4 k ++ (1 ∷ 0 ∷ 0 ∷ 0 ∷ [])) (bytes_of x ++ replicate 216 0) 8 (8 + i) 0 refl (omega arith)
           ∙ ap (λ j. get_or (bytes_of x ++ replicate 216 0) j 0) same ∙ get_or_append_left (bytes_of x) (replicate 216 0) 0 i (omega arith);
-      rest = zero-from (bytes 4 k ++ (1 ∷ 0 ∷ 0 ∷ 0 ∷ bytes_of x)) 40 216 refl;
+      rest = zero-from (le_bytes 4 k ++ (1 ∷ 0 ∷ 0 ∷ 0 ∷ bytes_of x)) 40 216 refl;
     }
 
 pub header-placed : (h : Header) → h.pairs < 2 ^ 32 → HeaderPlaces h.register h.cash h.pairs (header_bytes h)
@@ -57,14 +57,14 @@ header-placed h l =
       register-kind = refl;
       cash-kind = refl;
       number = four-of h.pairs l;
-      rest = zero-from (1 ∷ 2 ∷ h.register ∷ h.cash ∷ bytes 4 h.pairs) 8 248 refl;
+      rest = zero-from (1 ∷ 2 ∷ h.register ∷ h.cash ∷ le_bytes 4 h.pairs) 8 248 refl;
     }
 
 -- a format that was answered 0
-pub format-placed : (register cash pairs : ℕ) (m m' : Medium) → pairs < 2 ^ 32 → pairs + 4 < m.left → Formatted (header_bytes (header_for register cash pairs)) pairs m m' → FormatPlaces register cash pairs m m'
+pub format-placed : (register cash pairs : ℕ) (m m' : Medium) → pairs < 2 ^ 32 → pairs + 4 < m.calls_left → Formats (header_bytes (header_for_kinds register cash pairs)) pairs m m' → FormatPlaces register cash pairs m m'
 format-placed register cash pairs m m' few calls f =
     record {
-      head = (header_bytes (header_for register cash pairs), f.headed (omega arith), header-placed (header_for register cash pairs) few);
+      head = (header_bytes (header_for_kinds register cash pairs), f.headed (omega arith), header-placed (header_for_kinds register cash pairs) few);
       even = λ j l h. (
         zeros,
         ap m'.holds (omega arith) ∙ f.unmarked (j - 1) (omega arith) (omega arith),
@@ -76,7 +76,7 @@ format-placed register cash pairs m m' few calls f =
     }
 
 -- an entry that was written whole
-pub entry-placed : (k : ℕ) (x : Instruction) (m m' : Medium) → k < 2 ^ 32 → 3 < m.left → Entered (record_bytes k x) (mark_bytes k) k m m' → EntryPlaces k x m m'
+pub entry-placed : (k : ℕ) (x : Instruction) (m m' : Medium) → k < 2 ^ 32 → 3 < m.calls_left → WritesEntry (record_bytes k x) (mark_bytes k) k m m' → EntryPlaces k x m m'
 entry-placed k x m m' low calls e =
     record {
       entry = (record_bytes k x, ap m'.holds (omega arith) ∙ e.recorded (omega arith), record-placed k x low);

@@ -5,7 +5,7 @@ use Rattle.std.proofs.lemmas.List.{length_push, get_or_push, get_or_append_left}
 use Rattle.device.specs.Medium.{Medium}
 use Rattle.device.specs.Calls.{SameBlocks}
 use Rattle.device.specs.Power.{Restart}
-use Rattle.journal.specs.Journal.{Layout, Firm, mark_at, record_at, Good, Blank, Tail, Says, Journal, Entered}
+use Rattle.journal.specs.Journal.{JournalBlocks, Firm, mark_at, record_at, Good, Blank, Tail, Says, Journal, WritesEntry}
 
 -- a block that is not loose keeps what it holds, and stays so
 abbrev pub Steady : Medium → Medium → ℕ → Type 0
@@ -20,7 +20,7 @@ steady-look m n r c e = (r.holds c, r.loose c ∙ e)
 firm-stays : (m n : Medium) (c : ℕ) (bs : List ℕ) → Steady m n c → Firm m c bs → Firm n c bs
 firm-stays m n c bs s f = let t = s f.1 in (t.0 ∙ f.0, t.1)
 
-module _ {X : Type 0} (L : Layout X) where
+module _ {X : Type 0} (L : JournalBlocks X) where
   -- what an opening that reads all of its journal finds
   pub record Found (m : Medium) (ys : List X) : Type 0 where
     pub room : length ys ≤ L.pairs
@@ -68,25 +68,25 @@ module _ {X : Type 0} (L : Layout X) where
         tail = λ b. rw p (j.beyond (length xs + 1) (omega arith) (omega arith));
       }
 
-  module _ (m n : Medium) (xs : List X) (x : X) (room : length xs < L.pairs) (fits : L.read (length xs) (L.entry (length xs) x) ≡ Some x) (e : Entered (L.entry (length xs) x) (L.mark (length xs)) (length xs) m n) where
+  module _ (m n : Medium) (xs : List X) (x : X) (room : length xs < L.pairs) (fits : L.read (length xs) (L.entry (length xs) x) ≡ Some x) (e : WritesEntry (L.entry (length xs) x) (L.mark (length xs)) (length xs) m n) where
     around : (c : ℕ) → (c ≡ record_at (length xs) → ⊥) → (c ≡ mark_at (length xs) → ⊥) → Steady m n c
     around c a b f = (e.holds c a b, e.loose c a b f)
 
-    recorded : 1 < m.left → Says L n (length xs) x
+    recorded : 1 < m.calls_left → Says L n (length xs) x
     recorded l = (L.entry (length xs) x, (e.recorded (omega arith), e.recorded-firm l), fits)
 
     -- an entry that was cut short is in hand
-    pub entry-cut : Journal L m xs None → m.left < 4 → Journal L n xs (Some x)
+    pub entry-cut : Journal L m xs None → m.calls_left < 4 → Journal L n xs (Some x)
     entry-cut j l =
         carried m n xs None (Some x) around j (
           room,
-          ⊎_elim (λ (low : m.left < 2). inl (blank-stays m n (length xs) (λ f. (e.unmarked low, e.unmarked-firm low f)) (j.tail room)))
-              (λ (high : 2 ≤ m.left). inr (recorded (omega arith), inl (omega (arith, e.left))))
-              (cases_lt m.left 2),
+          ⊎_elim (λ (low : m.calls_left < 2). inl (blank-stays m n (length xs) (λ f. (e.unmarked low, e.unmarked-firm low f)) (j.tail room)))
+              (λ (high : 2 ≤ m.calls_left). inr (recorded (omega arith), inl (omega (arith, e.calls_left))))
+              (cases_lt m.calls_left 2),
         )
 
     -- one that was not has joined the list
-    pub entry-made : Journal L m xs None → 3 < m.left → Journal L n (xs ++ (x ∷ [])) None
+    pub entry-made : Journal L m xs None → 3 < m.calls_left → Journal L n (xs ++ (x ∷ [])) None
     entry-made j l =
         let says = recorded (omega arith) in
         let held = carried m n xs None (Some x) around j (room, inr (says, inr (e.firm l (mark_at (length xs))))) in
@@ -105,7 +105,7 @@ module _ {X : Type 0} (L : Layout X) where
       )
 
   -- reads change nothing but the calls left
-  pub looking : (m n : Medium) (xs : List X) (hand : Option X) → Journal L m xs hand → SameBlocks m n → n.left ≤ m.left → Journal L n xs hand
+  pub looking : (m n : Medium) (xs : List X) (hand : Option X) → Journal L m xs hand → SameBlocks m n → n.calls_left ≤ m.calls_left → Journal L n xs hand
   looking m n xs None j r l =
       carried m n xs None None (λ c a b. steady-look m n r c) j (λ h. blank-stays m n (length xs) (steady-look m n r (mark_at (length xs))) (j.tail h))
   looking m n xs (Some x) j r l =
@@ -142,14 +142,14 @@ module _ {X : Type 0} (L : Layout X) where
       ⊎_elim (λ (l : length xs + 1 < length ys). absurd ((j.beyond (length xs + 1) (omega arith) (omega (arith, f.room))).0 (f.marks (length xs + 1) l)))
       (λ g. g) (cases_lt (length xs + 1) (length ys))
 
-  settled-down : (m : Medium) (xs : List X) (x : X) → Journal L m xs (Some x) → 0 < m.left → m.loose (mark_at (length xs)) ≡ false
+  settled-down : (m : Medium) (xs : List X) (x : X) → Journal L m xs (Some x) → 0 < m.calls_left → m.loose (mark_at (length xs)) ≡ false
   settled-down m xs x j l =
-      ⊎_elim (λ b. b.1) (λ f. ⊎_elim (λ (z : m.left ≡ 0). absurd (omega arith)) (λ c. c) f.1) j.tail.1
+      ⊎_elim (λ b. b.1) (λ f. ⊎_elim (λ (z : m.calls_left ≡ 0). absurd (omega arith)) (λ c. c) f.1) j.tail.1
 
-  dropped : (m : Medium) (xs ys : List X) (x : X) → Journal L m xs (Some x) → 0 < m.left → Found m ys → length ys ≡ length xs → Journal L m xs None
+  dropped : (m : Medium) (xs ys : List X) (x : X) → Journal L m xs (Some x) → 0 < m.calls_left → Found m ys → length ys ≡ length xs → Journal L m xs None
   dropped m xs ys x j l f e = retold m xs (Some x) None j (λ h. (λ g. f.stop (omega arith) (rw e g), settled-down m xs x j l))
 
-  taken : (m : Medium) (xs ys : List X) (x : X) → Journal L m xs (Some x) → 0 < m.left → Found m ys → length ys ≡ length xs + 1 → (ys ≡ xs ++ (x ∷ [])) × Journal L m (xs ++ (x ∷ [])) None
+  taken : (m : Medium) (xs ys : List X) (x : X) → Journal L m xs (Some x) → 0 < m.calls_left → Found m ys → length ys ≡ length xs + 1 → (ys ≡ xs ++ (x ∷ [])) × Journal L m (xs ++ (x ∷ [])) None
   taken m xs ys x j l f e =
       ⊎_elim (λ b. absurd (b.0 (f.marks (length xs) (omega arith))))
       (λ q.
@@ -165,7 +165,7 @@ module _ {X : Type 0} (L : Layout X) where
       j.tail.1
 
   -- with one in hand, an opening finds the list or the list and it
-  pub found-one : (m : Medium) (xs ys : List X) (x : X) → Found m ys → Journal L m xs (Some x) → 0 < m.left → ((ys ≡ xs) ⊎ (ys ≡ xs ++ (x ∷ []))) × Journal L m ys None
+  pub found-one : (m : Medium) (xs ys : List X) (x : X) → Found m ys → Journal L m xs (Some x) → 0 < m.calls_left → ((ys ≡ xs) ⊎ (ys ≡ xs ++ (x ∷ []))) × Journal L m ys None
   found-one m xs ys x f j l =
       let a = not-short m xs ys (Some x) j f in
       let b = one-at-most m xs ys x j f in

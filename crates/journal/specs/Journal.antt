@@ -1,11 +1,11 @@
 -- What a journal holds on its device, between calls, and what writing an entry leaves. Assumes nothing.
 use Rattle.std.specs.Prelude.{◌≡◌, ℕ, ◌+◌, ◌-◌, ◌*◌, ◌<◌, ◌≤◌, false, cond, ◌⊎◌, List, length, Some, None, Ok, Err, Option, ◌==◌, ◌≢◌, slice_index_or}
-use Rattle.answers.specs.Faults.{fault, fault_at}
+use Rattle.refusals.specs.Faults.{fault, fault_at}
 use Rattle.device.specs.Medium.{Medium}
 use Rattle.device.specs.Calls.{Answer}
 
 -- how entries of any sort are written: the header's bytes, a mark's and a record's
-pub record Layout (X : Type 0) : Type 0 where
+pub record JournalBlocks (X : Type 0) : Type 0 where
   pub pairs : ℕ
   pub header : List ℕ
   pub mark : ℕ → List ℕ
@@ -26,28 +26,28 @@ abbrev pub Firm : Medium → ℕ → List ℕ → Type 0
 Firm m b bs = (m.holds b ≡ Some bs) × (m.loose b ≡ false)
 
 -- the answer to the four calls of an entry, by the calls left: its record, a sync, its mark, a sync
-abbrev pub enter_answer : Medium → ℕ → Answer
-enter_answer m k =
-    cond (m.left == 0) (Err (fault_at 13 (record_at k)))
-    (cond (m.left == 1) (Err (fault 13))
-    (cond (m.left == 2) (Err (fault_at 13 (mark_at k)))
-    (cond (m.left == 3) (Err (fault 13)) (Ok tt))))
+abbrev pub write_entry_answer : Medium → ℕ → Answer
+write_entry_answer m k =
+    cond (m.calls_left == 0) (Err (fault_at 13 (record_at k)))
+    (cond (m.calls_left == 1) (Err (fault 13))
+    (cond (m.calls_left == 2) (Err (fault_at 13 (mark_at k)))
+    (cond (m.calls_left == 3) (Err (fault 13)) (Ok tt))))
 
 -- What the four calls of entry k leave, given the bytes of its record and of its mark, however many of the calls
 -- there was power for: the mark is touched only once the record is safe.
-pub record Entered (entry mark : List ℕ) (k : ℕ) (m m' : Medium) : Type 0 where
+pub record WritesEntry (entry mark : List ℕ) (k : ℕ) (m m' : Medium) : Type 0 where
   pub size : m'.size ≡ m.size
-  pub left : m'.left ≡ m.left - 4
+  pub calls_left : m'.calls_left ≡ m.calls_left - 4
   pub holds : (b : ℕ) → (b ≢ record_at k) → (b ≢ mark_at k) → m'.holds b ≡ m.holds b
   pub loose : (b : ℕ) → (b ≢ record_at k) → (b ≢ mark_at k) → m.loose b ≡ false → m'.loose b ≡ false
-  pub recorded : 0 < m.left → m'.holds (record_at k) ≡ Some entry
-  pub recorded-firm : 1 < m.left → m'.loose (record_at k) ≡ false
-  pub unmarked : m.left < 2 → m'.holds (mark_at k) ≡ m.holds (mark_at k)
-  pub unmarked-firm : m.left < 2 → m.loose (mark_at k) ≡ false → m'.loose (mark_at k) ≡ false
-  pub marked : 2 < m.left → m'.holds (mark_at k) ≡ Some mark
-  pub firm : 3 < m.left → (b : ℕ) → m'.loose b ≡ false
+  pub recorded : 0 < m.calls_left → m'.holds (record_at k) ≡ Some entry
+  pub recorded-firm : 1 < m.calls_left → m'.loose (record_at k) ≡ false
+  pub unmarked : m.calls_left < 2 → m'.holds (mark_at k) ≡ m.holds (mark_at k)
+  pub unmarked-firm : m.calls_left < 2 → m.loose (mark_at k) ≡ false → m'.loose (mark_at k) ≡ false
+  pub marked : 2 < m.calls_left → m'.holds (mark_at k) ≡ Some mark
+  pub firm : 3 < m.calls_left → (b : ℕ) → m'.loose b ≡ false
 
-module _ {X : Type 0} (L : Layout X) where
+module _ {X : Type 0} (L : JournalBlocks X) where
   abbrev pub Good : Medium → ℕ → Type 0
   Good m k = m.holds (mark_at k) ≡ Some (L.mark k)
 
@@ -63,7 +63,7 @@ module _ {X : Type 0} (L : Layout X) where
   -- the mark is anyhow, but not loose while calls are left.
   abbrev pub Tail : Medium → ℕ → Option X → Type 0
   Tail m n None = n < L.pairs → Blank m n
-  Tail m n (Some x) = (n < L.pairs) × (Blank m n ⊎ (Says m n x × ((m.left ≡ 0) ⊎ (m.loose (mark_at n) ≡ false))))
+  Tail m n (Some x) = (n < L.pairs) × (Blank m n ⊎ (Says m n x × ((m.calls_left ≡ 0) ⊎ (m.loose (mark_at n) ≡ false))))
 
   -- the device keeps the list, and what is in hand if anything
   pub record Journal (m : Medium) (xs : List X) (hand : Option X) : Type 0 where

@@ -1,7 +1,7 @@
 -- Where each number stands in a journal's blocks, and each block on its device, counted out by no word
 -- of the layout.
 use Rattle.std.specs.Prelude.{◌≡◌, ℕ, ◌+◌, ◌*◌, ◌^◌, ◌<◌, ◌≤◌, List, length, Some, ◌≢◌, slice_index_or}
-use Rattle.device.specs.declared.TheConstants.{BLOCK}
+use Rattle.device.specs.declared.TheConstants.{BLOCK_SIZE}
 use Rattle.device.specs.Medium.{Medium}
 use Rattle.instruction.specs.declared.Instruction.{Instruction}
 use Rattle.instruction.specs.Layout.{bytes_of}
@@ -20,7 +20,7 @@ abbrev pub ZeroFrom : ℕ → List ℕ → Type 0
 ZeroFrom n bs = (i : ℕ) → n ≤ i → byte bs i ≡ 0
 
 pub record HeaderPlaces (register cash pairs : ℕ) (bs : List ℕ) : Type 0 where
-  pub long : length bs ≡ BLOCK
+  pub long : length bs ≡ BLOCK_SIZE
   pub edition : byte bs 0 ≡ 1
   pub books : byte bs 1 ≡ 2
   pub register-kind : byte bs 2 ≡ register
@@ -29,7 +29,7 @@ pub record HeaderPlaces (register cash pairs : ℕ) (bs : List ℕ) : Type 0 whe
   pub rest : ZeroFrom 8 bs
 
 pub record RecordPlaces (k : ℕ) (x : Instruction) (bs : List ℕ) : Type 0 where
-  pub long : length bs ≡ BLOCK
+  pub long : length bs ≡ BLOCK_SIZE
   pub entry : four bs 0 ≡ k
   -- how many instructions it has, and three zeros
   pub count : four bs 4 ≡ 1
@@ -37,7 +37,7 @@ pub record RecordPlaces (k : ℕ) (x : Instruction) (bs : List ℕ) : Type 0 whe
   pub rest : ZeroFrom 40 bs
 
 pub record MarkPlaces (k : ℕ) (bs : List ℕ) : Type 0 where
-  pub long : length bs ≡ BLOCK
+  pub long : length bs ≡ BLOCK_SIZE
   pub entry : four bs 0 ≡ k
   -- the entry's number turned over
   pub complement : four bs 4 + k + 1 ≡ 2 ^ 32
@@ -48,7 +48,7 @@ pub record MarkPlaces (k : ℕ) (bs : List ℕ) : Type 0 where
 pub record FormatPlaces (register cash pairs : ℕ) (m m' : Medium) : Type 0 where
   pub head : (bs : List ℕ) × (m'.holds 0 ≡ Some bs) × HeaderPlaces register cash pairs bs
   pub even : (j : ℕ) → 0 < j → j ≤ pairs
-      → (bs : List ℕ) × (m'.holds (2 * j) ≡ Some bs) × (length bs ≡ BLOCK) × ZeroFrom 0 bs
+      → (bs : List ℕ) × (m'.holds (2 * j) ≡ Some bs) × (length bs ≡ BLOCK_SIZE) × ZeroFrom 0 bs
   pub odd : (j : ℕ) → m'.holds (2 * j + 1) ≡ m.holds (2 * j + 1)
   pub beyond : (b : ℕ) → 2 * pairs < b → m'.holds b ≡ m.holds b
 

@@ -5,9 +5,9 @@ ghost use Rattle.journal.specs.Blocks.{mark_bytes, is_mark, record_bytes, record
 ghost use Rattle.journal.specs.Places.{MarkPlaces, RecordPlaces};
 ghost use Rattle.journal.specs.Reading.{ReadsMark, ReadsRecord};
 
-use answers::Refusal;
 use instruction::Instruction;
 use little_endian::LittleEndian;
+use refusals::Refusal;
 
 pub fn mark_block(entry: u32) -> [u8; 256]
     ensures value { result ≡ mark_bytes entry }

@@ -1,24 +1,24 @@
 // Making a device into a journal with no entries. The old header goes first and the new one comes last, and the marks between
 // them, each with a sync: so no header ever stands over marks of which only some are replaced.
 ghost use Rattle.std.specs.Prelude.{◌≡◌, ◌+◌, ◌*◌, ◌<◌, ◌≤◌, true, false, [], ◌∷◌, ◌++◌, take, None, Ok};
-ghost use Rattle.device.specs.Traces.{Traced, writing, syncing};
-ghost use Rattle.journal.specs.Blocks.{header_bytes, layout};
+ghost use Rattle.device.specs.Traces.{IsTrace, writing, syncing};
+ghost use Rattle.journal.specs.Blocks.{header_bytes, journal_blocks};
 ghost use Rattle.journal.specs.Journal.{Journal};
 ghost use Rattle.journal.specs.Places.{FormatPlaces};
-ghost use Rattle.journal.specs.Format.{header_for, no_room, format_answer, Formatted, keep_answer, Kept, blank_answer, Blanked, mark_writes, format_calls};
+ghost use Rattle.journal.specs.Format.{header_for_kinds, no_room, format_answer, Formats, keep_answer, Kept, blank_answer, Blanked, mark_writes, format_calls};
 
 use crate::header::{Header, MOST_PAIRS};
-use answers::{Fault, Refusal};
-use device::{BLOCK, Device};
+use device::{BLOCK_SIZE, Device};
+use refusals::{Fault, Refusal};
 
-const ZEROS: [u8; BLOCK] = [0; BLOCK];
+const ZEROS: [u8; BLOCK_SIZE] = [0; BLOCK_SIZE];
 
 // Writes a block, and syncs.
-fn keep<D: Device>(device: &mut D, block: u32, bytes: &[u8; BLOCK]) -> Result<(), Fault>
+fn keep<D: Device>(device: &mut D, block: u32, bytes: &[u8; BLOCK_SIZE]) -> Result<(), Fault>
     requires { block < (D.medium device.old).size }
-    ensures answer { result ≡ keep_answer block (D.medium device.old).left }
+    ensures answer { result ≡ keep_answer block (D.medium device.old).calls_left }
     ensures after { Kept block bytes.now (D.medium device.old) (D.medium device.new) }
-    ensures trace { Traced D.makes (take ((D.medium device.old).left + 1) (writing block bytes.now ∷ syncing ∷ []))
+    ensures trace { IsTrace D.makes (take ((D.medium device.old).calls_left + 1) (writing block bytes.now ∷ syncing ∷ []))
         device.old device.new }
 {
     device.write(block, bytes)?;
@@ -29,9 +29,9 @@ fn keep<D: Device>(device: &mut D, block: u32, bytes: &[u8; BLOCK]) -> Result<()
 fn blank_marks<D: Device>(device: &mut D, pairs: u32) -> Result<(), Fault>
     requires few { pairs ≤ 32767 }
     requires within { 1 + 2 * pairs ≤ (D.medium device.old).size }
-    ensures answer { result ≡ blank_answer pairs (D.medium device.old).left }
+    ensures answer { result ≡ blank_answer pairs (D.medium device.old).calls_left }
     ensures after { Blanked pairs (D.medium device.old) (D.medium device.new) }
-    ensures trace { Traced D.makes (take ((D.medium device.old).left + 1) (mark_writes pairs ++ (syncing ∷ [])))
+    ensures trace { IsTrace D.makes (take ((D.medium device.old).calls_left + 1) (mark_writes pairs ++ (syncing ∷ [])))
         device.old device.new }
 {
     for entry in 0..pairs {
@@ -46,14 +46,14 @@ pub fn format<D: Device>(device: &mut D, pairs: u32, register: u8, cash: u8) -> 
     ensures refused { no_room pairs (D.medium device.old).size ≡ true
         → D.medium device.new ≡ D.medium device.old }
     ensures after { no_room pairs (D.medium device.old).size ≡ false
-        → Formatted (header_bytes (header_for register cash pairs)) pairs
+        → Formats (header_bytes (header_for_kinds register cash pairs)) pairs
         (D.medium device.old) (D.medium device.new) }
-    ensures trace { Traced D.makes (format_calls (header_bytes (header_for register cash pairs)) pairs
-        (D.medium device.old).size (D.medium device.old).left) device.old device.new }
+    ensures trace { IsTrace D.makes (format_calls (header_bytes (header_for_kinds register cash pairs)) pairs
+        (D.medium device.old).size (D.medium device.old).calls_left) device.old device.new }
     ensures places { result ≡ Ok tt
         → FormatPlaces register cash pairs (D.medium device.old) (D.medium device.new) }
     ensures journal { result ≡ Ok tt
-        → Journal (layout (header_for register cash pairs)) (D.medium device.new) [] None }
+        → Journal (journal_blocks (header_for_kinds register cash pairs)) (D.medium device.new) [] None }
 {
     if pairs < 1 || pairs > MOST_PAIRS || device.size() < 1 + 2 * pairs {
         return Err(Refusal::NoRoom.into());

@@ -5,8 +5,8 @@ ghost use Rattle.journal.specs.Places.{HeaderPlaces};
 ghost use Rattle.journal.specs.Reading.{ReadsHeader};
 
 use crate::zeros::all_zero;
-use answers::Refusal;
 use little_endian::LittleEndian;
+use refusals::Refusal;
 
 // As many pairs of a record and a mark as a journal may have.
 pub(crate) const MOST_PAIRS: u32 = 32767;

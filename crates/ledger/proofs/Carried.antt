@@ -3,28 +3,29 @@ use Rattle.std.proofs.Common.{◌≡◌, ℕ, ◌<◌, true, false, cond, List, 
 use Rattle.std.proofs.lemmas.Grind.{common_steps, get_or-set_at}
 use Rattle.std.proofs.lemmas.Bool.Decides.{nat_tests}
 use Rattle.std.proofs.lemmas.Bool.{cond-false}
-use Rattle.answers.specs.declared.Refusal.{Refusal}
-use Rattle.answers.specs.declared.Fault.{Fault}
+use Rattle.refusals.specs.declared.Refusal.{Refusal}
+use Rattle.refusals.specs.declared.Fault.{Fault}
 use Rattle.instruction.specs.declared.Kind.TheVariants.{Issue, PayIn, Enter}
 use Rattle.instruction.specs.declared.Instruction.{Instruction}
 use Rattle.instruction.specs.Kinds.{kind_at}
 use Rattle.book.specs.declared.Book as book
-use Rattle.book.specs.Rulings.{first, on_ok}
+use Rattle.refusals.specs.Answers.{if_ok}
+use Rattle.book.specs.Rulings.{first_refusal}
 use Rattle.rulebook.specs.declared.State.{State}
 use Rattle.rulebook.specs.declared.State.TheVariants.{Entered}
 use Rattle.rulebook.specs.declared.Terms.{Terms}
 use Rattle.rulebook.specs.declared.Trade.{Trade}
 use Rattle.rulebook.specs.Table.{Act, after, starts, next}
 use Rattle.rulebook.specs.Terms.{terms_of, Side, securities, cash}
-use Rattle.rulebook.specs.Rules.{Rulebook, Standing, all_checks, answer_as, answer, with_trade, verdict, at, turned, is_enter, terms_after, deed, effect, Reached}
-use Rattle.rulebook.specs.Law.{Given}
+use Rattle.rulebook.specs.Rules.{Rulebook, Standing, all_checks, answer_as, answer, with_trade, fault_answer, at, turned, is_enter, terms_after, deed, effect, Reached}
+use Rattle.rulebook.specs.Law.{FollowsRules}
 use Rattle.ledger.specs.declared.parts.Parts.{Parts}
-use Rattle.ledger.specs.View.{rulebook, standing_in, book_after}
+use Rattle.ledger.specs.View.{rulebook_of, standing_in, book_after}
 use Rattle.ledger.specs.Rows.{trade_at, state_at, terms_at, put, rows_after}
 use Rattle.rulebook.proofs.Checks.{right}
 use Rattle.ledger.proofs.Views.{standing-same}
 use Rattle.rulebook.proofs.Carries.{carried-out}
-use Rattle.rulebook.proofs.Givens.{given, accepted}
+use Rattle.rulebook.proofs.Following.{given, accepted}
 use Rattle.book.proofs.Accepted.{outcome-ok}
 
 -- where a kind of a trade may start, the table leads on
@@ -67,7 +68,7 @@ module _ (rows : List Trade) (x : Instruction) (whole : length rows ≡ 128) whe
             ∙ same-terms (terms_at rows) x.trade u ∙ ap (λ b. terms_after b (terms_at rows) x u) (sym i);
       })
 
-  pub turned-rows : (h : Rulebook) (k : Act) (m : Terms) (s : Standing) → first (all_checks h k o m s x) ≡ Ok tt → Turned k x rows (rows_after k x rows)
+  pub turned-rows : (h : Rulebook) (k : Act) (m : Terms) (s : Standing) → first_refusal (all_checks h k o m s x) ≡ Ok tt → Turned k x rows (rows_after k x rows)
   turned-rows h (Some Issue) m s p = record { states = λ u. refl; terms = λ u. refl }
   turned-rows h (Some PayIn) m s p = record { states = λ u. refl; terms = λ u. refl }
   turned-rows h None m s p = record { states = λ u. refl; terms = λ u. refl }
@@ -85,30 +86,30 @@ pub accepts : (x : Instruction) (r : Result (Unit {0}) Refusal) → with_trade x
 accepts x (Ok u) e = refl
 accepts x (Err r) e = cc
 
-unmoved : (s t : Standing) (x : Instruction) (f : Fault) (r : Result (Unit {0}) Refusal) → with_trade x r ≡ Err f → on_ok r t s ≡ s
+unmoved : (s t : Standing) (x : Instruction) (f : Fault) (r : Result (Unit {0}) Refusal) → with_trade x r ≡ Err f → if_ok r t s ≡ s
 unmoved s t x f (Ok u) e = cc
 unmoved s t x f (Err r) e = refl
 
 -- what giving an instruction leaves, where the rules refuse it
-pub given-refused : (h : Rulebook) (s : Standing) (x : Instruction) (f : Fault) → verdict h s x ≡ Err f → Reached h s → Given h s s x
+pub given-refused : (h : Rulebook) (s : Standing) (x : Instruction) (f : Fault) → fault_answer h s x ≡ Err f → Reached h s → FollowsRules h s s x
 given-refused h s x f e z = given h s s x z (sym (unmoved s (effect s x) x f (answer h s x) e))
 
 -- and where they accept it: what carrying out leaves is what the rules say
 pub given-carried : {R C : Type 0} (r : book.Ghosts R) (c : book.Ghosts C) (p q : Parts R C) (x : Instruction) (k : Act)
-    → kind_at x.kind ≡ k → verdict (rulebook r.fixed c.fixed) (standing_in r c p) x ≡ Ok tt → Reached (rulebook r.fixed c.fixed) (standing_in r c p)
-    → r.holdings q.register ≡ book_after r.fixed securities k x (trade_at p.trades.rows x.trade) (r.holdings p.register)
-    → c.holdings q.cash ≡ book_after c.fixed cash k x (trade_at p.trades.rows x.trade) (c.holdings p.cash)
-    → q.trades.rows ≡ rows_after k x p.trades.rows → Given (rulebook r.fixed c.fixed) (standing_in r c p) (standing_in r c q) x
+    → kind_at x.kind ≡ k → fault_answer (rulebook_of r.book_kind c.book_kind) (standing_in r c p) x ≡ Ok tt → Reached (rulebook_of r.book_kind c.book_kind) (standing_in r c p)
+    → r.holdings q.register ≡ book_after r.book_kind securities k x (trade_at p.trades.rows x.trade) (r.holdings p.register)
+    → c.holdings q.cash ≡ book_after c.book_kind cash k x (trade_at p.trades.rows x.trade) (c.holdings p.cash)
+    → q.trades.rows ≡ rows_after k x p.trades.rows → FollowsRules (rulebook_of r.book_kind c.book_kind) (standing_in r c p) (standing_in r c q) x
 given-carried r c p q x k is v (xs, run) er ec et =
-    let h = rulebook r.fixed c.fixed in
+    let h = rulebook_of r.book_kind c.book_kind in
     let s = standing_in r c p in
     let rows = p.trades.rows in
     let trade = trade_at rows x.trade in
     let ok = accepts x (answer h s x) v in
     let takes = carried-out h xs s x run ok in
     let tr = turned-rows rows x p.trades.whole h k trade.terms s (subst (λ k. answer_as h k s x ≡ Ok tt) is ok) in
-    let done : (d : Side) → book_after (h.kind d) d k x trade (s.book d) ≡ (effect s x).book d = λ d.
-    ap (λ k. book_after (h.kind d) d k x trade (s.book d)) (sym is) ∙ sym (outcome-ok (h.kind d) (s.book d) (deed (kind_at x.kind) d trade.state trade.terms x) (sym (takes d))) in
+    let done : (d : Side) → book_after (h.book_kind d) d k x trade (s.book d) ≡ (effect s x).book d = λ d.
+    ap (λ k. book_after (h.book_kind d) d k x trade (s.book d)) (sym is) ∙ sym (outcome-ok (h.book_kind d) (s.book d) (deed (kind_at x.kind) d trade.state trade.terms x) (sym (takes d))) in
     let leads : standing_in r c q ≡ effect s x =
     standing-same (r.holdings q.register) (c.holdings q.cash) q.trades.rows (effect s x) (er ∙ done securities) (ec ∙ done cash)
     (λ u. ap (λ z. state_at z u) et ∙ tr.states u ∙ ap (λ k. turned (after k) (state_at rows) x.trade u) (sym is))

@@ -7,11 +7,11 @@ use Rattle.std.proofs.lemmas.Bool.{cases_lt}
 use Rattle.book.specs.declared.Book as book
 use Rattle.book.specs.declared.Holding.{Holding}
 use Rattle.book.specs.Holdings.{Holdings, BookKind, nothing}
-use Rattle.book.specs.Rulings.{no_holding, holding_at}
+use Rattle.book.specs.Rulings.{no_holding, holding_of}
 use Rattle.rulebook.specs.declared.Trade.{Trade}
 use Rattle.rulebook.specs.Terms.{Side, securities, cash}
 use Rattle.rulebook.specs.Rules.{Rulebook, Standing, empty, start, Reached}
-use Rattle.ledger.specs.View.{by_side, standing, holding_in, holdings_in, table_of, Tables, tables_in, standing_of, standing_in}
+use Rattle.ledger.specs.View.{both_sides, standing, holding_in, holdings_in, table_of, Tables, tables_in, standing_of, standing_in}
 use Rattle.ledger.specs.declared.parts.Parts.{Parts}
 use Rattle.ledger.specs.Rows.{blank, state_at, terms_at}
 
@@ -22,7 +22,7 @@ replicated t = ⊎_elim (λ l. get_or-replicate 128 t blank blank l) (λ p. get_
 pub standing-same : (r c : Holdings) (rows : List Trade) (s : Standing) → r ≡ s.book securities → c ≡ s.book cash
     → ((t : ℕ) → state_at rows t ≡ s.state t) → ((t : ℕ) → terms_at rows t ≡ s.terms t) → standing r c rows ≡ s
 standing-same r c rows s er ec es em =
-    let books : (d : Side) → by_side r c d ≡ s.book d = λ d. elim d as (λ d. by_side r c d ≡ s.book d) [ securities ↦ er | cash ↦ ec ] in
+    let books : (d : Side) → both_sides r c d ≡ s.book d = λ d. elim d as (λ d. both_sides r c d ≡ s.book d) [ securities ↦ er | cash ↦ ec ] in
     λ k. record { book = λ d. books d k; state = λ t. es t k; terms = λ t. em t k }
 
 pub fresh : (r c : Holdings) (rows : List Trade) → r ≡ nothing → c ≡ nothing → rows ≡ replicate 128 blank → standing r c rows ≡ empty
@@ -41,19 +41,19 @@ Outside k b = (a i : ℕ) → (64 ≤ a) ⊎ (k.items ≤ i) → (b.free a i ≡
 -- its table says the same
 module _ (k : BookKind) (b : Holdings) (o : Outside k b) where
   row_of : ℕ → List Holding
-  row_of a = map (holding_at b a) (range_with_len 0 k.items)
+  row_of a = map (holding_of b a) (range_with_len 0 k.items)
 
-  none-there : (a i : ℕ) → (64 ≤ a) ⊎ (k.items ≤ i) → no_holding ≡ holding_at b a i
+  none-there : (a i : ℕ) → (64 ≤ a) ⊎ (k.items ≤ i) → no_holding ≡ holding_of b a i
   none-there a i p = let z = o a i p in λ j. record { free = sym z.0 j; blocked = sym z.1 j }
 
-  in-row : (a i : ℕ) → get_or (row_of a) i no_holding ≡ holding_at b a i
+  in-row : (a i : ℕ) → get_or (row_of a) i no_holding ≡ holding_of b a i
   unfolding row_of
   in-row a i =
-      ⊎_elim (λ (l : i < k.items). get_or-map-range_with_len (holding_at b a) 0 k.items i i no_holding l (omega arith))
-      (λ (p : k.items ≤ i). get_or_past (row_of a) i no_holding (subst (λ n. n ≤ i) (sym (length-map-range_with_len (holding_at b a) 0 k.items)) p) ∙ none-there a i (inr p))
+      ⊎_elim (λ (l : i < k.items). get_or-map-range_with_len (holding_of b a) 0 k.items i i no_holding l (omega arith))
+      (λ (p : k.items ≤ i). get_or_past (row_of a) i no_holding (subst (λ n. n ≤ i) (sym (length-map-range_with_len (holding_of b a) 0 k.items)) p) ∙ none-there a i (inr p))
       (cases_lt i k.items)
 
-  in-table : (a i : ℕ) → holding_in (table_of k b) a i ≡ holding_at b a i
+  in-table : (a i : ℕ) → holding_in (table_of k b) a i ≡ holding_of b a i
   unfolding row_of table_of
   in-table a i =
       ⊎_elim (λ (l : a < 64). ap (λ r. get_or r i no_holding) (get_or-map-range_with_len row_of 0 64 a a [] l (omega arith)) ∙ in-row a i)
@@ -65,9 +65,9 @@ module _ (k : BookKind) (b : Holdings) (o : Outside k b) where
 
 -- where a ledger stands is where its parts do
 pub stands : {R C : Type 0} (r : book.Ghosts R) (c : book.Ghosts C) (p : Parts R C) {t : Tables}
-    → ((b : R) → Outside r.fixed (r.holdings b)) → ((b : C) → Outside c.fixed (c.holdings b)) → tables_in r c p ≡ t → standing_of t ≡ standing_in r c p
+    → ((b : R) → Outside r.book_kind (r.holdings b)) → ((b : C) → Outside c.book_kind (c.holdings b)) → tables_in r c p ≡ t → standing_of t ≡ standing_in r c p
 stands r c p or oc e =
     let rows = p.trades.rows in
     ap standing_of (sym e)
-    ∙ ap (λ b. standing b (holdings_in (table_of c.fixed (c.holdings p.cash))) rows) (tabled r.fixed (r.holdings p.register) (or p.register))
-    ∙ ap (λ b. standing (r.holdings p.register) b rows) (tabled c.fixed (c.holdings p.cash) (oc p.cash))
+    ∙ ap (λ b. standing b (holdings_in (table_of c.book_kind (c.holdings p.cash))) rows) (tabled r.book_kind (r.holdings p.register) (or p.register))
+    ∙ ap (λ b. standing (r.holdings p.register) b rows) (tabled c.book_kind (c.holdings p.cash) (oc p.cash))

@@ -1,15 +1,15 @@
 -- What a contract sees of a ledger, and where the ledger stands. Assumes nothing.
 use Rattle.std.specs.Prelude.{◌≡◌, ℕ, List, [], map, Some, Ok, Err, Result, slice_index_or}
 use Rattle.std.specs.List.{range_with_len}
-use Rattle.answers.specs.declared.Refusal.{Refusal}
-use Rattle.answers.specs.declared.Fault.{Fault}
+use Rattle.refusals.specs.declared.Refusal.{Refusal}
+use Rattle.refusals.specs.declared.Fault.{Fault}
 use Rattle.instruction.specs.declared.Kind.{Kind}
 use Rattle.instruction.specs.declared.Instruction.{Instruction}
 use Rattle.book.specs.declared.Book as book
 use Rattle.book.specs.declared.TheConstants.{ACCOUNTS}
 use Rattle.book.specs.declared.Holding.{Holding}
 use Rattle.book.specs.Holdings.{Holdings, BookKind}
-use Rattle.book.specs.Rulings.{no_holding, asked, holding_at, outcome}
+use Rattle.book.specs.Rulings.{no_holding, amount_answer, holding_of, outcome}
 use Rattle.rulebook.specs.declared.Trade.{Trade}
 use Rattle.ledger.specs.declared.parts.Parts.{Parts}
 use Rattle.rulebook.specs.Terms.{Side, securities, cash}
@@ -17,17 +17,17 @@ use Rattle.rulebook.specs.Table.{Act}
 use Rattle.rulebook.specs.Rules.{Rulebook, Standing, deed}
 use Rattle.ledger.specs.Rows.{state_at, terms_at}
 
-abbrev pub by_side : {X : Type 0} → X → X → Side → X
-by_side r c securities = r
-by_side r c cash = c
+abbrev pub both_sides : {X : Type 0} → X → X → Side → X
+both_sides r c securities = r
+both_sides r c cash = c
 
 -- the register's and the cash book's kinds as a rule book
-abbrev pub rulebook : BookKind → BookKind → Rulebook
-rulebook r c = record { kind = by_side r c }
+abbrev pub rulebook_of : BookKind → BookKind → Rulebook
+rulebook_of r c = record { book_kind = both_sides r c }
 
 -- a table of trades between two books
 abbrev pub standing : Holdings → Holdings → List Trade → Standing
-standing r c rows = record { book = by_side r c; state = state_at rows; terms = terms_at rows }
+standing r c rows = record { book = both_sides r c; state = state_at rows; terms = terms_at rows }
 
 -- a book in a table: a row for each account, and in it a holding for each item
 abbrev pub Table : Type 0
@@ -45,7 +45,7 @@ holdings_in t = record {
 
 unfoldable pub table_of : BookKind → Holdings → Table
 table_of k b =
-    map (λ a. map (holding_at b a) (range_with_len 0 k.items)) (range_with_len 0 ACCOUNTS)
+    map (λ a. map (holding_of b a) (range_with_len 0 k.items)) (range_with_len 0 ACCOUNTS)
 
 -- a ledger, as a contract sees it
 pub record Tables : Type 0 where
@@ -55,8 +55,8 @@ pub record Tables : Type 0 where
 
 abbrev pub tables_in : {R C : Type 0} → book.Ghosts R → book.Ghosts C → Parts R C → Tables
 tables_in r c p = record {
-  register = table_of r.fixed (r.holdings p.register);
-  cash = table_of c.fixed (c.holdings p.cash);
+  register = table_of r.book_kind (r.holdings p.register);
+  cash = table_of c.book_kind (c.holdings p.cash);
   trades = p.trades.rows;
 }
 
@@ -79,4 +79,4 @@ IsJudged k verdict (Err fault) = verdict ≡ Err fault
 
 -- the question of what an account has of an item, or of a currency
 abbrev pub holding_question : Rulebook → Standing → Side → ℕ → ℕ → Result Holding Refusal
-holding_question h s d account item = asked (h.kind d) (holding_at (s.book d)) account item
+holding_question h s d account item = amount_answer (h.book_kind d) (holding_of (s.book d)) account item

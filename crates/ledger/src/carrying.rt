@@ -13,10 +13,10 @@ impl<R: Book, C: Book> Parts<R, C> {
     // The books and the trade after an instruction.
     pub(crate) fn carry_out(&mut self, kind: Kind, x: &Instruction)
         ensures register { R.holdings self.new.register
-            ≡ book_after R.fixed securities (Some kind) x.now
+            ≡ book_after R.book_kind securities (Some kind) x.now
             (trade_at self.old.trades.rows x.now.trade) (R.holdings self.old.register) }
         ensures cash { C.holdings self.new.cash
-            ≡ book_after C.fixed money (Some kind) x.now
+            ≡ book_after C.book_kind money (Some kind) x.now
             (trade_at self.old.trades.rows x.now.trade) (C.holdings self.old.cash) }
         ensures trades { self.new.trades.rows ≡ rows_after (Some kind) x.now self.old.trades.rows }
     {
@@ -30,9 +30,9 @@ impl<R: Book, C: Book> Parts<R, C> {
     // What the instruction has the two books do. Their answers are let go: they accept what the rules accept.
     fn move_holdings(&mut self, kind: Kind, trade: &Trade, x: &Instruction)
         ensures register { R.holdings self.new.register
-            ≡ book_after R.fixed securities (Some kind) x.now trade.now (R.holdings self.old.register) }
+            ≡ book_after R.book_kind securities (Some kind) x.now trade.now (R.holdings self.old.register) }
         ensures cash { C.holdings self.new.cash
-            ≡ book_after C.fixed money (Some kind) x.now trade.now (C.holdings self.old.cash) }
+            ≡ book_after C.book_kind money (Some kind) x.now trade.now (C.holdings self.old.cash) }
         ensures trades { self.new.trades ≡ self.old.trades }
     {
         let Terms {

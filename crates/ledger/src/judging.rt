@@ -1,16 +1,16 @@
 // The rules' answer to an instruction, with nothing changed.
 ghost use Rattle.std.specs.Prelude.{◌≡◌, if◌then◌else◌, Some, Ok, Err, nat_lt};
-ghost use Rattle.answers.specs.Numbers.{numbered};
+ghost use Rattle.refusals.specs.Numbers.{numbered};
 ghost use Rattle.instruction.specs.Kinds.{kind_at};
-ghost use Rattle.book.specs.Rulings.{first};
-ghost use Rattle.rulebook.specs.Rules.{stray, enter_checks, answer_as, verdict};
-ghost use Rattle.ledger.specs.View.{rulebook, standing_in, IsJudged};
+ghost use Rattle.book.specs.Rulings.{first_refusal};
+ghost use Rattle.rulebook.specs.Rules.{stray, enter_checks, answer_as, fault_answer};
+ghost use Rattle.ledger.specs.View.{rulebook_of, standing_in, IsJudged};
 
 use crate::parts::Parts;
-use answers::{Fault, Refusal};
 use book::{ACCOUNTS, Book};
 use instruction::{Instruction, Kind};
-use rulebook::about;
+use refusals::{Fault, Refusal};
+use rulebook::fault_about;
 
 // A field that the kind does not use is not 0: the instruction is not the one with those fields left out.
 fn has_stray_field(kind: Kind, x: &Instruction) -> bool
@@ -56,7 +56,7 @@ fn enough<B: Book>(book: &B, account: u16, item: u16, wanted: u64) -> Result<(),
 impl<R: Book, C: Book> Parts<R, C> {
     // What an Enter is checked for, once its trade may be entered.
     fn terms_ruling(&self, x: &Instruction) -> Result<(), Refusal>
-        ensures { result ≡ first (enter_checks (rulebook R.fixed C.fixed) x.now) }
+        ensures { result ≡ first_refusal (enter_checks (rulebook_of R.book_kind C.book_kind) x.now) }
     {
         if x.account == x.counterparty {
             return Err(Refusal::SameParties);
@@ -76,7 +76,7 @@ impl<R: Book, C: Book> Parts<R, C> {
     // The answer to an instruction of a known kind.
     fn ruling(&self, kind: Kind, x: &Instruction) -> Result<(), Refusal>
         ensures { result
-            ≡ answer_as (rulebook R.fixed C.fixed) (Some kind) (standing_in R.Book C.Book self.now) x.now }
+            ≡ answer_as (rulebook_of R.book_kind C.book_kind) (Some kind) (standing_in R.Book C.Book self.now) x.now }
     {
         if has_stray_field(kind, x) {
             return Err(Refusal::StrayField);
@@ -114,11 +114,11 @@ impl<R: Book, C: Book> Parts<R, C> {
     // The kind of an instruction that the rules accept now, or their fault.
     pub(crate) fn accepted(&self, x: &Instruction) -> Result<Kind, Fault>
         ensures { IsJudged (kind_at x.now.kind)
-            (verdict (rulebook R.fixed C.fixed) (standing_in R.Book C.Book self.now) x.now) result }
+            (fault_answer (rulebook_of R.book_kind C.book_kind) (standing_in R.Book C.Book self.now) x.now) result }
     {
         let kind = Kind::try_from(x.kind)?;
         self.ruling(kind, x)
-            .map_err(|refusal| about(x, refusal.into()))?;
+            .map_err(|refusal| fault_about(x, refusal.into()))?;
         Ok(kind)
     }
 }

@@ -3,21 +3,21 @@
 
 ghost use Rattle.std.specs.Prelude.{◌≡◌};
 ghost use Rattle.rulebook.specs.Terms.{securities as in_securities, cash as in_cash};
-ghost use Rattle.rulebook.specs.Rules.{empty, verdict};
+ghost use Rattle.rulebook.specs.Rules.{empty, fault_answer};
 ghost use Rattle.ledger.specs.Rows.{state_question};
-ghost use Rattle.ledger.specs.View.{rulebook, standing_of, holding_question};
+ghost use Rattle.ledger.specs.View.{rulebook_of, standing_of, holding_question};
 ghost use Rattle.rulebook.specs.Table.{StateTable};
-ghost use Rattle.rulebook.specs.Law.{Given, KeptIfRefused, LawOfTheLedger};
+ghost use Rattle.rulebook.specs.Law.{FollowsRules, RefusalChangesNothing, LawOfTheLedger};
 
 mod carrying;
 mod judging;
 mod parts;
 pub mod trades;
 
-use answers::{Fault, Refusal};
 use book::{Book, Holding};
 use instruction::Instruction;
 use parts::Parts;
+use refusals::{Fault, Refusal};
 use rulebook::{State, TRADES};
 use std::marker::Model;
 use trades::Trades;
@@ -31,13 +31,13 @@ pub struct Ledger<R: Book, C: Book> {
 // A contract sees the books and the trades as tables. Accepted instructions led to where a ledger stands.
 impl<R: Book, C: Book> Model for Ledger<R, C> {
     ghost use Rattle.rulebook.specs.Rules.{Reached};
-    ghost use Rattle.ledger.specs.View.{Tables, tables_in, rulebook, standing_in};
+    ghost use Rattle.ledger.specs.View.{Tables, tables_in, rulebook_of, standing_in};
 
     ghost Value = { Tables };
 
     ghost view = { λ l. tables_in R.Book C.Book l.parts };
 
-    ghost invariant = { λ l. Reached (rulebook R.fixed C.fixed) (standing_in R.Book C.Book l.parts) };
+    ghost invariant = { λ l. Reached (rulebook_of R.book_kind C.book_kind) (standing_in R.Book C.Book l.parts) };
 }
 
 impl<R: Book, C: Book> Ledger<R, C> {
@@ -75,17 +75,17 @@ impl<R: Book, C: Book> Ledger<R, C> {
     }
 
     // What the rules answer to an instruction now; nothing changes.
-    pub fn judge(&self, x: &Instruction) -> Result<(), Fault>
-        ensures { result ≡ verdict (rulebook R.fixed C.fixed) (standing_of self.now) x.now }
+    pub fn answer_to(&self, x: &Instruction) -> Result<(), Fault>
+        ensures { result ≡ fault_answer (rulebook_of R.book_kind C.book_kind) (standing_of self.now) x.now }
     {
         self.parts.accepted(x).map(|_| ())
     }
 
     // Judges an instruction, and carries it out where the rules accept it.
     pub fn instruct(&mut self, x: &Instruction) -> Result<(), Fault>
-        ensures answer { result ≡ verdict (rulebook R.fixed C.fixed) (standing_of self.old) x.now }
-        ensures after { Given (rulebook R.fixed C.fixed) (standing_of self.old) (standing_of self.new) x.now }
-        ensures kept { KeptIfRefused result (standing_of self.old) (standing_of self.new) }
+        ensures answer { result ≡ fault_answer (rulebook_of R.book_kind C.book_kind) (standing_of self.old) x.now }
+        ensures by_rules { FollowsRules (rulebook_of R.book_kind C.book_kind) (standing_of self.old) (standing_of self.new) x.now }
+        ensures refusal { RefusalChangesNothing result (standing_of self.old) (standing_of self.new) }
         ensures table { StateTable }
         ensures law { LawOfTheLedger }
     {
@@ -106,7 +106,7 @@ impl<R: Book, C: Book> Ledger<R, C> {
     // What an account has of an item of the register. The two books are of two types, so each question goes to one of them.
     pub fn securities(&self, account: u16, item: u16) -> Result<Holding, Refusal>
         ensures { result
-            ≡ holding_question (rulebook R.fixed C.fixed) (standing_of self.now) in_securities account item }
+            ≡ holding_question (rulebook_of R.book_kind C.book_kind) (standing_of self.now) in_securities account item }
     {
         self.parts.register.holding(account, item)
     }
@@ -114,7 +114,7 @@ impl<R: Book, C: Book> Ledger<R, C> {
     // What an account has of a currency.
     pub fn money(&self, account: u16, currency: u16) -> Result<Holding, Refusal>
         ensures { result
-            ≡ holding_question (rulebook R.fixed C.fixed) (standing_of self.now) in_cash account currency }
+            ≡ holding_question (rulebook_of R.book_kind C.book_kind) (standing_of self.now) in_cash account currency }
     {
         self.parts.cash.holding(account, currency)
     }

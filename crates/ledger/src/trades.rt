@@ -4,8 +4,8 @@ ghost use Rattle.std.specs.Prelude.{◌≡◌, Some, length, replicate};
 ghost use Rattle.rulebook.specs.declared.TheConstants.{TRADES};
 ghost use Rattle.ledger.specs.Rows.{blank, trade_at, put as put_in, put_answer, startable};
 
-use answers::Refusal;
 use instruction::Kind;
+use refusals::Refusal;
 use rulebook::{State, TRADES, Terms, Trade};
 
 #[derive(Drop)]

@@ -3,21 +3,21 @@ use Rattle.std.specs.Prelude.{◌≡◌, ℕ, zero, suc, ◌+◌, ◌*◌, ◌/�
 use Rattle.std.specs.List.{AllByRecursion}
 
 -- the number that a string of bytes means
-abbrev pub le : List ℕ → ℕ
-le [] = 0
-le (b ∷ bs) = b + 256 * le bs
+abbrev pub le_number : List ℕ → ℕ
+le_number [] = 0
+le_number (b ∷ bs) = b + 256 * le_number bs
 
 -- the w lowest bytes of n
-abbrev pub bytes : ℕ → ℕ → List ℕ
-bytes zero n = []
-bytes (suc w) n = (n % 256) ∷ bytes w (n / 256)
+abbrev pub le_bytes : ℕ → ℕ → List ℕ
+le_bytes zero n = []
+le_bytes (suc w) n = (n % 256) ∷ le_bytes w (n / 256)
 
 -- the w bytes from place `at` on, by their places, so that at numerals it computes
-abbrev pub part : ℕ → ℕ → List ℕ → List ℕ
-part at zero bs = []
-part at (suc w) bs = slice_index bs at ∷ part (suc at) w bs
+abbrev pub bytes_from : ℕ → ℕ → List ℕ → List ℕ
+bytes_from at zero bs = []
+bytes_from at (suc w) bs = slice_index bs at ∷ bytes_from (suc at) w bs
 
 -- what is written is read back, and what is read is written back
 pub record EveryWidth : Type 0 where
-  pub written : (w n : ℕ) → n < 256 ^ w → le (bytes w n) ≡ n
-  pub read : (bs : List ℕ) → AllByRecursion (λ b. b < 256) bs → bytes (length bs) (le bs) ≡ bs
+  pub written : (w n : ℕ) → n < 256 ^ w → le_number (le_bytes w n) ≡ n
+  pub read : (bs : List ℕ) → AllByRecursion (λ b. b < 256) bs → le_bytes (length bs) (le_number bs) ≡ bs

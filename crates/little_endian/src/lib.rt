@@ -2,7 +2,7 @@
 #![tactic(auto)]
 
 ghost use Rattle.std.specs.Prelude.{◌≡◌, ℕ};
-ghost use Rattle.little_endian.specs.Little.{le, bytes, EveryWidth};
+ghost use Rattle.little_endian.specs.Little.{le_number, le_bytes, EveryWidth};
 
 // Numbers of N bytes. Reading undoes writing and writing undoes reading, for all widths together.
 pub trait LittleEndian<const N: usize>: Copy {
@@ -10,11 +10,11 @@ pub trait LittleEndian<const N: usize>: Copy {
     ghost value: { Self → ℕ };
 
     fn from_little_endian(b: &[u8; N]) -> Self
-        ensures value { value result ≡ le b.now }
+        ensures value { value result ≡ le_number b.now }
         ensures undone { EveryWidth };
 
     fn to_little_endian(self) -> [u8; N]
-        ensures { result ≡ bytes N (value self) };
+        ensures { result ≡ le_bytes N (value self) };
 }
 
 impl LittleEndian<2> for u16 {

@@ -3,10 +3,10 @@ use Rattle.std.specs.Prelude.{◌≡◌, ℕ, ◌<◌, ◌≤◌, true, List, le
 use Rattle.std.proofs.Common.{sym, ap, ◌∙◌, ⊎_elim, arith}
 use Rattle.std.proofs.lemmas.List.{get_or-set_same, get_or-set_other, get_or_past, get_or-replicate, length-set, length-replicate}
 use Rattle.std.proofs.lemmas.Bool.{cases_eq, cases_lt, lt-ltb, eqb-true, cases_Bool}
-use Rattle.answers.specs.declared.Refusal.{Refusal}
-use Rattle.book.specs.Sums.{only, here}
+use Rattle.refusals.specs.declared.Refusal.{Refusal}
+use Rattle.book.specs.Sums.{amount_if, is_place}
 use Rattle.book.specs.Holdings.{Holdings, nothing, Deed, apply, crediting, blocking, moving}
-use Rattle.book.specs.Rulings.{ruling, outcome, asked, covering}
+use Rattle.book.specs.Rulings.{ruling, outcome, amount_answer, covering}
 use Rattle.book.proofs.Same.{holdings-same}
 use Rattle.book.proofs.Change.{here-in, here-not}
 use Rattle.book.proofs.Accepted.{outcome-ok, asked-ok, covers-ok, credit-fits, block-accepted, move-accepted}
@@ -23,10 +23,10 @@ count-none (Free owner) e = absurd (omega arith)
 count-none (Blocked owner) e = absurd (omega arith)
 
 -- the quantity is 1, and the account is the owner
-sole : (owner a q : ℕ) → 0 < q → q ≤ only (owner == a) 1 → (owner ≡ a) × (q ≡ 1)
+sole : (owner a q : ℕ) → 0 < q → q ≤ amount_if (owner == a) 1 → (owner ≡ a) × (q ≡ 1)
 sole owner a q some most =
-    ⊎_elim (λ e. let o : only (owner == a) 1 ≡ 1 = ap (λ t. only t 1) e in (eqb-true owner a e, omega arith))
-    (λ e. let o : only (owner == a) 1 ≡ 0 = ap (λ t. only t 1) e in absurd (omega arith)) (cases_Bool (owner == a))
+    ⊎_elim (λ e. let o : amount_if (owner == a) 1 ≡ 1 = ap (λ t. amount_if t 1) e in (eqb-true owner a e, omega arith))
+    (λ e. let o : amount_if (owner == a) 1 ≡ 0 = ap (λ t. amount_if t 1) e in absurd (omega arith)) (cases_Bool (owner == a))
 
 is-free : (l : Lot) (a q : ℕ) → 0 < q → q ≤ free_of l a → (l ≡ Free a) × (q ≡ 1)
 is-free Unowned a q some most = absurd (omega arith)
@@ -65,11 +65,11 @@ module _ (book : Lots) (A I q : ℕ) where
   lots = book.lots
 
   -- what the deed adds or takes, in its own item and elsewhere
-  in-item : (B a : ℕ) → q ≡ 1 → only (here B I a I) q ≡ only (B == a) 1
-  in-item B a e = ap (λ t. only t q) (here-in B I a) ∙ ap (only (B == a)) e
+  in-item : (B a : ℕ) → q ≡ 1 → amount_if (is_place B I a I) q ≡ amount_if (B == a) 1
+  in-item B a e = ap (λ t. amount_if t q) (here-in B I a) ∙ ap (amount_if (B == a)) e
 
-  elsewhere : (B a i : ℕ) → (i ≢ I) → only (here B I a i) q ≡ 0
-  elsewhere B a i ne = ap (λ t. only t q) (here-not B I a i ne)
+  elsewhere : (B a i : ℕ) → (i ≢ I) → amount_if (is_place B I a i) q ≡ 0
+  elsewhere B a i ne = ap (λ t. amount_if t q) (here-not B I a i ne)
 
   done : (l : Lot) (w : Deed) → I < 256 → listed l ≡ true → Ok tt ≡ ruling lots_kind (amounts lots) w → (I < length lots → amounts (slice_set lots I l) ≡ apply (amounts lots) w) → Done lots (slice_set lots I l) w
   done l w li e ok same =
@@ -92,7 +92,7 @@ module _ (book : Lots) (A I q : ℕ) where
       (λ a i ne. omega (arith, elsewhere A a i ne)) (λ a i ne. refl))
 
   module _ (n : ℕ) (short : Refusal) (c : Ok tt ≡ covering n q short) where
-    pub block-done : Ok n ≡ asked lots_kind (amounts lots).free A I → Done lots (slice_set lots I (Blocked A)) (blocking A I q)
+    pub block-done : Ok n ≡ amount_answer lots_kind (amounts lots).free A I → Done lots (slice_set lots I (Blocked A)) (blocking A I q)
     block-done e =
         let p = asked-ok lots_kind (amounts lots).free A I n e in
         let m = covers-ok n q short c in
@@ -103,7 +103,7 @@ module _ (book : Lots) (A I q : ℕ) where
         (λ a. omega (arith, ap (λ x. free_of x a) s.0, in-item A a s.1)) (λ a. omega (arith, ap (λ x. blocked_of x a) s.0, in-item A a s.1))
         (λ a i ne. omega (arith, elsewhere A a i ne)) (λ a i ne. omega (arith, elsewhere A a i ne)))
 
-    module _ (e : Ok n ≡ asked lots_kind (amounts lots).blocked A I) where
+    module _ (e : Ok n ≡ amount_answer lots_kind (amounts lots).blocked A I) where
       place : (A < 64) × (I < 256) × (n ≡ blocked_of (at lots I) A)
       place = asked-ok lots_kind (amounts lots).blocked A I n e
 

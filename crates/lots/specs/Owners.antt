@@ -1,6 +1,6 @@
 -- A table of numbered lots: each is whole, with one account or with none. Assumes nothing.
 use Rattle.std.specs.Prelude.{◌≡◌, ℕ, Bool, true, List, length, ◌==◌, nat_lt, slice_index_or}
-use Rattle.book.specs.Sums.{only}
+use Rattle.book.specs.Sums.{amount_if}
 use Rattle.book.specs.Holdings.{Holdings, BookKind}
 use Rattle.lots.specs.declared.table.Lot.{Lot}
 use Rattle.lots.specs.declared.table.Lot.TheVariants.{Unowned, Free, Blocked}
@@ -12,13 +12,13 @@ lots_kind = record { code = 2; items = 256; ceiling = 1 }
 -- what an account has of a lot
 abbrev pub free_of : Lot → ℕ → ℕ
 free_of Unowned account = 0
-free_of (Free owner) account = only (owner == account) 1
+free_of (Free owner) account = amount_if (owner == account) 1
 free_of (Blocked owner) account = 0
 
 abbrev pub blocked_of : Lot → ℕ → ℕ
 blocked_of Unowned account = 0
 blocked_of (Free owner) account = 0
-blocked_of (Blocked owner) account = only (owner == account) 1
+blocked_of (Blocked owner) account = amount_if (owner == account) 1
 
 -- no one has a lot outside the table
 abbrev pub at : List Lot → ℕ → Lot

@@ -5,15 +5,15 @@ mod table;
 
 ghost use Rattle.std.specs.Prelude.{◌≡◌};
 ghost use Rattle.book.specs.Holdings.{nothing};
-ghost use Rattle.book.specs.Rulings.{asked, holding_at};
+ghost use Rattle.book.specs.Rulings.{amount_answer, holding_of};
 ghost use Rattle.lots.specs.Owners.{lots_kind, free_of, blocked_of, at};
 ghost use Rattle.lots.specs.Meaning.{meaning};
 ghost use Rattle.lots.specs.Laws;
 ghost use Rattle.lots.specs.Laws.{free-outside, blocked-outside};
 ghost use Rattle.std.proofs.Common.{rules};
 
-use answers::Refusal;
 use book::{ACCOUNTS, Book, Holding, covers};
+use refusals::Refusal;
 use table::Lot;
 pub use table::Lots;
 
@@ -50,7 +50,7 @@ impl Lots {
 
     // What an account has of an item, where the book has both: each book tests for its own number of items.
     fn held(&self, account: u16, item: u16) -> Result<Holding, Refusal>
-        ensures { result ≡ asked lots_kind (holding_at (meaning self.now)) account item }
+        ensures { result ≡ amount_answer lots_kind (holding_of (meaning self.now)) account item }
     {
         if account >= ACCOUNTS {
             return Err(Refusal::NoAccount);
@@ -65,15 +65,15 @@ impl Lots {
 impl Book for Lots {
     ghost holdings = { meaning };
 
-    ghost fixed = { lots_kind };
+    ghost book_kind = { lots_kind };
 
-    ghost within = { λ b item. Laws.within b.lots b.owned item };
+    ghost within_limit = { λ b item. Laws.within b.lots b.owned item };
 
-    ghost outside = { λ b account item out. (free-outside b.lots b.full b.owned account item out, blocked-outside b.lots b.full b.owned account item out) };
+    ghost nothing_outside = { λ b account item out. (free-outside b.lots b.full b.owned account item out, blocked-outside b.lots b.full b.owned account item out) };
 
-    ghost narrow = { Prim.search rules };
+    ghost kind_fits = { Prim.search rules };
 
-    ghost useful = { Prim.search rules };
+    ghost kind_useful = { Prim.search rules };
 
     fn clear(&mut self) {
         *self = Lots::new();

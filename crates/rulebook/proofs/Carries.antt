@@ -5,7 +5,7 @@ use Rattle.instruction.specs.declared.Kind.TheVariants.{Issue, PayIn, Enter, Ear
 use Rattle.instruction.specs.declared.Instruction.{Instruction}
 use Rattle.instruction.specs.Kinds.{kind_at}
 use Rattle.book.specs.Holdings.{crediting, blocking, releasing, moving}
-use Rattle.book.specs.Rulings.{first, checks}
+use Rattle.book.specs.Rulings.{first_refusal, checks}
 use Rattle.rulebook.specs.declared.State.{State}
 use Rattle.rulebook.specs.declared.Terms.{Terms}
 use Rattle.rulebook.specs.Table.{Act, starts}
@@ -26,28 +26,28 @@ module _ (h : Rulebook) (s : Standing) (z : Safe h s) (x : Instruction) where
   m = s.terms x.trade
 
   abbrev Takes : Act → Side → State → Type 0
-  Takes k d o = first (checks (h.kind d) (s.book d) (deed k d o m x)) ≡ Ok tt
+  Takes k d o = first_refusal (checks (h.book_kind d) (s.book d) (deed k d o m x)) ≡ Ok tt
 
   good : (k : Act) (o : State) → s.state x.trade ≡ o → is_enter k ≡ false → starts k o ≡ true → Proper h m
   good k o e i w = ⊎_elim (λ n. absurd (was-entered h k o i w (sym e ∙ n))) (λ p. p) (z.proper x.trade)
 
-  may-block : (d : Side) → Proper h m → volume d m ≤ (s.book d).free (giver d m) (asset d m) → first (checks (h.kind d) (s.book d) (blocking (giver d m) (asset d m) (volume d m))) ≡ Ok tt
-  may-block d p l = passes (checks (h.kind d) (s.book d) (blocking (giver d m) (asset d m) (volume d m))) (lt-leb 64 _ (p.giver-low d), (lt-leb _ _ (p.asset-low d), (not-zero _ (p.some-volume d), (le-ltb _ _ l, tt))))
+  may-block : (d : Side) → Proper h m → volume d m ≤ (s.book d).free (giver d m) (asset d m) → first_refusal (checks (h.book_kind d) (s.book d) (blocking (giver d m) (asset d m) (volume d m))) ≡ Ok tt
+  may-block d p l = passes (checks (h.book_kind d) (s.book d) (blocking (giver d m) (asset d m) (volume d m))) (lt-leb 64 _ (p.giver-low d), (lt-leb _ _ (p.asset-low d), (not-zero _ (p.some-volume d), (le-ltb _ _ l, tt))))
 
-  may-release : (d : Side) → Proper h m → volume d m ≤ (s.book d).blocked (giver d m) (asset d m) → first (checks (h.kind d) (s.book d) (releasing (giver d m) (asset d m) (volume d m))) ≡ Ok tt
-  may-release d p l = passes (checks (h.kind d) (s.book d) (releasing (giver d m) (asset d m) (volume d m))) (lt-leb 64 _ (p.giver-low d), (lt-leb _ _ (p.asset-low d), (not-zero _ (p.some-volume d), (le-ltb _ _ l, tt))))
+  may-release : (d : Side) → Proper h m → volume d m ≤ (s.book d).blocked (giver d m) (asset d m) → first_refusal (checks (h.book_kind d) (s.book d) (releasing (giver d m) (asset d m) (volume d m))) ≡ Ok tt
+  may-release d p l = passes (checks (h.book_kind d) (s.book d) (releasing (giver d m) (asset d m) (volume d m))) (lt-leb 64 _ (p.giver-low d), (lt-leb _ _ (p.asset-low d), (not-zero _ (p.some-volume d), (le-ltb _ _ l, tt))))
 
-  may-move : (d : Side) → Proper h m → volume d m ≤ (s.book d).blocked (giver d m) (asset d m) → first (checks (h.kind d) (s.book d) (moving (giver d m) (taker d m) (asset d m) (volume d m))) ≡ Ok tt
-  may-move d p l = passes (checks (h.kind d) (s.book d) (moving (giver d m) (taker d m) (asset d m) (volume d m))) (neither _ _ (lt-leb 64 _ (p.giver-low d)) (lt-leb 64 _ (p.taker-low d)), (lt-leb _ _ (p.asset-low d), (not-zero _ (p.some-volume d), (le-ltb _ _ l, tt))))
+  may-move : (d : Side) → Proper h m → volume d m ≤ (s.book d).blocked (giver d m) (asset d m) → first_refusal (checks (h.book_kind d) (s.book d) (moving (giver d m) (taker d m) (asset d m) (volume d m))) ≡ Ok tt
+  may-move d p l = passes (checks (h.book_kind d) (s.book d) (moving (giver d m) (taker d m) (asset d m) (volume d m))) (neither _ _ (lt-leb 64 _ (p.giver-low d)) (lt-leb 64 _ (p.taker-low d)), (lt-leb _ _ (p.asset-low d), (not-zero _ (p.some-volume d), (le-ltb _ _ l, tt))))
 
   holding-still : (d : Side) (o : State) → x.trade < 128 → s.state x.trade ≡ o → holds d o ≡ true → volume d m ≤ (s.book d).blocked (giver d m) (asset d m)
   holding-still d o l e y = z.covered d x.trade l (ap (holds d) e ∙ y)
 
-  takes : (k : Act) (d : Side) (o : State) → s.state x.trade ≡ o → first (all_checks h k o m s x) ≡ Ok tt → Takes k d o
-  takes (Some Issue) securities o e p = passes (checks (h.kind securities) (s.book securities) (crediting x.account x.item x.quantity)) (cleared h m s x (Some Issue) o p).1.1
+  takes : (k : Act) (d : Side) (o : State) → s.state x.trade ≡ o → first_refusal (all_checks h k o m s x) ≡ Ok tt → Takes k d o
+  takes (Some Issue) securities o e p = passes (checks (h.book_kind securities) (s.book securities) (crediting x.account x.item x.quantity)) (cleared h m s x (Some Issue) o p).1.1
   takes (Some Issue) cash o e p = refl
   takes (Some PayIn) securities o e p = refl
-  takes (Some PayIn) cash o e p = passes (checks (h.kind cash) (s.book cash) (crediting x.account x.currency x.amount)) (cleared h m s x (Some PayIn) o p).1.1
+  takes (Some PayIn) cash o e p = passes (checks (h.book_kind cash) (s.book cash) (crediting x.account x.currency x.amount)) (cleared h m s x (Some PayIn) o p).1.1
   takes (Some Enter) d o e p = refl
   takes (Some Earmark) securities o e p =
       let r = right h (Some Earmark) o m s x tt p in

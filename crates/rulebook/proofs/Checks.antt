@@ -4,7 +4,7 @@ use Rattle.std.proofs.lemmas.Bool.{leb-false}
 use Rattle.instruction.specs.declared.Kind.TheVariants.{Issue, PayIn, Enter, Earmark, Fund, Settle, Free}
 use Rattle.instruction.specs.declared.Instruction.{Instruction}
 use Rattle.instruction.specs.Kinds.{code_of, kind_at}
-use Rattle.book.specs.Rulings.{Check, first}
+use Rattle.book.specs.Rulings.{Check, first_refusal}
 use Rattle.book.proofs.Accepted.{Clear, clear}
 use Rattle.rulebook.specs.declared.State.{State}
 use Rattle.rulebook.specs.declared.State.TheVariants.{Unentered, Entered}
@@ -13,12 +13,12 @@ use Rattle.rulebook.specs.Table.{Act, starts}
 use Rattle.rulebook.specs.Terms.{Side, securities, cash}
 use Rattle.rulebook.specs.Rules.{Rulebook, Standing, holds, is_settled, all_checks, is_enter, OfTrade}
 
-pub passes : (cs : List Check) → Clear cs → first cs ≡ Ok tt
+pub passes : (cs : List Check) → Clear cs → first_refusal cs ≡ Ok tt
 passes [] c = refl
 passes (c ∷ cs) e = rw e.0 (passes cs e.1)
 
 module _ (h : Rulebook) (m : Terms) (s : Standing) (x : Instruction) where
-  pub cleared : (k : Act) (o : State) → first (all_checks h k o m s x) ≡ Ok tt → Clear (all_checks h k o m s x)
+  pub cleared : (k : Act) (o : State) → first_refusal (all_checks h k o m s x) ≡ Ok tt → Clear (all_checks h k o m s x)
   cleared k o e = clear (all_checks h k o m s x) (sym e)
 
 not-false : (b : Bool) → not b ≡ false → b ≡ true
@@ -30,7 +30,7 @@ pub record Right (h : Rulebook) (k : Act) (o : State) (x : Instruction) : Type 0
   pub low : x.trade < 128
   pub from : starts k o ≡ true
 
-pub right : (h : Rulebook) (k : Act) (o : State) (m : Terms) (s : Standing) (x : Instruction) → OfTrade k → first (all_checks h k o m s x) ≡ Ok tt → Right h k o x
+pub right : (h : Rulebook) (k : Act) (o : State) (m : Terms) (s : Standing) (x : Instruction) → OfTrade k → first_refusal (all_checks h k o m s x) ≡ Ok tt → Right h k o x
 right h (Some Issue) o m s x t e = absurd t
 right h (Some PayIn) o m s x t e = absurd t
 right h None o m s x t e = absurd t

@@ -3,8 +3,8 @@ use Rattle.std.proofs.Common.{◌≡◌, ℕ, zero, suc, ◌+◌, Bool, true, fa
 use Rattle.std.specs.List.{range_with_len}
 use Rattle.std.proofs.lemmas.List.{map-id}
 use Rattle.std.proofs.lemmas.List.FromFn.{sum_by-map-range_with_len_more}
-use Rattle.book.specs.Sums.{up_to, only, here}
-use Rattle.book.proofs.Sums.{up_to-same}
+use Rattle.book.specs.Sums.{sum_below, amount_if, is_place}
+use Rattle.book.proofs.Sums.{sum_below-same}
 use Rattle.rulebook.specs.declared.State.{State}
 use Rattle.rulebook.specs.declared.State.TheVariants.{Earmarked, Funded, Settled}
 use Rattle.rulebook.specs.declared.Terms.{Terms}
@@ -12,7 +12,7 @@ use Rattle.rulebook.specs.Terms.{Side, securities, cash}
 use Rattle.rulebook.specs.Tally.{trades, counted, gift, receipt, hold}
 use Rattle.rulebook.proofs.Replay.{give_of, take_of, hold_of, over}
 
-both : (b c : Bool) (q : ℕ) → cond b (cond c q 0) 0 ≡ only (b && c) q
+both : (b c : Bool) (q : ℕ) → cond b (cond c q 0) 0 ≡ amount_if (b && c) q
 both true true q = refl
 both true false q = refl
 both false c q = refl
@@ -20,19 +20,19 @@ both false c q = refl
 sum-of-copy : (f : ℕ → ℕ) (n : ℕ) → sum_by f (range_with_len 0 n) ≡ sum_by f (map (λ k. k) (range_with_len 0 n))
 sum-of-copy f n = ap (λ l. sum_by f l) (sym (map-id (range_with_len 0 n)))
 
-sum-below : (f : ℕ → ℕ) (n : ℕ) → sum_by f (range_with_len 0 n) ≡ up_to n f
-unfolding up_to
+sum-below : (f : ℕ → ℕ) (n : ℕ) → sum_by f (range_with_len 0 n) ≡ sum_below n f
+unfolding sum_below
 sum-below f zero = refl
 sum-below f (suc n) =
     let m = rw add-one at (sum_by-map-range_with_len_more f (λ k. k) 0 n n (omega arith)) in
     sum-of-copy f (suc n) ∙ m ∙ ap (λ s. s + f n) (sym (sum-of-copy f n) ∙ sum-below f n)
 
-over-trades : (f : ℕ → ℕ) → sum_by f trades ≡ up_to 128 f
+over-trades : (f : ℕ → ℕ) → sum_by f trades ≡ sum_below 128 f
 unfolding trades
 over-trades f = sum-below f 128
 
 module _ (a i : ℕ) where
-  pub counted-is : (A I q : ℕ) → counted a i A I q ≡ only (here A I a i) q
+  pub counted-is : (A I q : ℕ) → counted a i A I q ≡ amount_if (is_place A I a i) q
   counted-is A I q = both (eqb A a) (eqb I i) q
 
   gift-is : (d : Side) (o : State) (m : Terms) → gift a i d o m ≡ give_of d a i o m
@@ -57,7 +57,7 @@ module _ (a i : ℕ) where
   -- over all trades
   summed : (f g : State → Terms → ℕ) → ((o : State) (m : Terms) → f o m ≡ g o m) → (st : ℕ → State) (tm : ℕ → Terms)
       → sum_by (λ t. f (st t) (tm t)) trades ≡ over g st tm
-  summed f g e st tm = over-trades (λ t. f (st t) (tm t)) ∙ up_to-same 128 _ _ (λ t l. e (st t) (tm t))
+  summed f g e st tm = over-trades (λ t. f (st t) (tm t)) ∙ sum_below-same 128 _ _ (λ t l. e (st t) (tm t))
 
   pub given-is : (d : Side) (st : ℕ → State) (tm : ℕ → Terms) → sum_by (λ t. gift a i d (st t) (tm t)) trades ≡ over (give_of d a i) st tm
   given-is d st tm = summed (gift a i d) (give_of d a i) (gift-is d) st tm

@@ -9,4 +9,4 @@ pub mod Whole
 pub mod Safe
 pub mod Carries
 pub mod Meanings
-pub mod Givens
+pub mod Following

@@ -5,14 +5,14 @@ use Rattle.instruction.specs.declared.Kind.{Kind}
 use Rattle.instruction.specs.declared.Kind.TheVariants.{Enter, Earmark, Fund, Settle, Free}
 use Rattle.instruction.specs.declared.Instruction.{Instruction}
 use Rattle.instruction.specs.Kinds.{code_of, kind_at}
-use Rattle.book.specs.Rulings.{first}
+use Rattle.book.specs.Rulings.{first_refusal}
 use Rattle.rulebook.specs.declared.State.{State}
 use Rattle.rulebook.specs.declared.State.TheVariants.{Entered, Earmarked, Funded, Settled, Freed}
 use Rattle.rulebook.specs.declared.Terms.{Terms}
 use Rattle.rulebook.specs.Table.{after, starts, next, Steps}
 use Rattle.rulebook.specs.Terms.{terms_of}
 use Rattle.rulebook.specs.Rules.{Rulebook, Standing, all_checks, answer, at, turned, effect}
-use Rattle.rulebook.specs.Words.{On, EnterOn, Never, Last, After, Stated, LastWords}
+use Rattle.rulebook.specs.Words.{On, EnterOn, Never, Last, After, Stated, LastsAreUnique}
 use Rattle.rulebook.proofs.Bytes.{by-byte}
 use Rattle.rulebook.proofs.Replay.{read_state, read_terms}
 use Rattle.rulebook.proofs.Checks.{right, enter-code}
@@ -147,8 +147,8 @@ is-enter-on t x =
     ⊎_elim (λ (e : x.trade ≡ t). inl (record { kind = k; trade = e })) (λ (n : x.trade ≡ t → ⊥). inr (λ o. n o.trade)) (cases_eq x.trade t))
     (λ (n : x.kind ≡ 3 → ⊥). inr (λ o. n o.kind)) (cases_eq x.kind 3)
 
-pub last-words : LastWords
-last-words = record {
+pub lasts-are-unique : LastsAreUnique
+lasts-are-unique = record {
   of-trade = λ t. record { some = some (On t) (is-on t); one = one (On t) };
   of-enter = λ t. record { some = some (EnterOn t) (is-enter-on t); one = one (EnterOn t) };
 }
@@ -167,7 +167,7 @@ pub moves : (h : Rulebook) (s : Standing) (x : Instruction) → answer h s x ≡
 moves h s x ok l m =
     let o = s.state x.trade in
     let tm = s.terms x.trade in
-    by-byte (λ k n. first (all_checks h k o tm s x) ≡ Ok tt → 3 ≤ n → n ≤ 7 → Steps o n (turned (after k) s.state x.trade x.trade))
+    by-byte (λ k n. first_refusal (all_checks h k o tm s x) ≡ Ok tt → 3 ≤ n → n ≤ 7 → Steps o n (turned (after k) s.state x.trade x.trade))
     (λ p l m. absurd (omega arith)) (λ p l m. absurd (omega arith))
     (λ p l m. steps Enter 3 refl o Entered s.state x.trade refl (right h (Some Enter) o tm s x tt p).from)
     (λ p l m. steps Earmark 4 refl o Earmarked s.state x.trade refl (right h (Some Earmark) o tm s x tt p).from)

@@ -2,7 +2,7 @@
 use Rattle.std.proofs.Common.{ℕ, List, fold}
 use Rattle.instruction.specs.declared.Instruction.{Instruction}
 use Rattle.instruction.specs.Kinds.{kind_at}
-use Rattle.book.specs.Sums.{up_to, only, here}
+use Rattle.book.specs.Sums.{sum_below, amount_if, is_place}
 use Rattle.rulebook.specs.declared.State.{State}
 use Rattle.rulebook.specs.declared.State.TheVariants.{Unentered}
 use Rattle.rulebook.specs.declared.Terms.{Terms}
@@ -24,14 +24,14 @@ terms_in xs = fold read_terms (λ t. no_terms) xs
 
 -- what a trade in a state, on terms, counts for the account a and the item i
 abbrev pub give_of : Side → ℕ → ℕ → State → Terms → ℕ
-give_of d a i s m = only (is_settled s) (only (here (giver d m) (asset d m) a i) (volume d m))
+give_of d a i s m = amount_if (is_settled s) (amount_if (is_place (giver d m) (asset d m) a i) (volume d m))
 
 abbrev pub take_of : Side → ℕ → ℕ → State → Terms → ℕ
-take_of d a i s m = only (is_settled s) (only (here (taker d m) (asset d m) a i) (volume d m))
+take_of d a i s m = amount_if (is_settled s) (amount_if (is_place (taker d m) (asset d m) a i) (volume d m))
 
 abbrev pub hold_of : Side → ℕ → ℕ → State → Terms → ℕ
-hold_of d a i s m = only (holds d s) (only (here (giver d m) (asset d m) a i) (volume d m))
+hold_of d a i s m = amount_if (holds d s) (amount_if (is_place (giver d m) (asset d m) a i) (volume d m))
 
 -- over all trades
 abbrev pub over : (State → Terms → ℕ) → (ℕ → State) → (ℕ → Terms) → ℕ
-over c st tm = up_to 128 (λ t. c (st t) (tm t))
+over c st tm = sum_below 128 (λ t. c (st t) (tm t))

@@ -4,8 +4,8 @@ use Rattle.std.proofs.lemmas.Bool.{eqb-true, eqb-false, eq-eqb, cases_Bool, leb-
 use Rattle.instruction.specs.declared.Kind.TheVariants.{Issue, PayIn, Enter}
 use Rattle.instruction.specs.declared.Instruction.{Instruction}
 use Rattle.instruction.specs.Kinds.{kind_at}
-use Rattle.book.specs.Sums.{only, here}
-use Rattle.book.specs.Rulings.{first}
+use Rattle.book.specs.Sums.{amount_if, is_place}
+use Rattle.book.specs.Rulings.{first_refusal}
 use Rattle.rulebook.specs.declared.State.{State}
 use Rattle.rulebook.specs.declared.State.TheVariants.{Unentered, Entered}
 use Rattle.rulebook.specs.declared.Terms.{Terms}
@@ -22,7 +22,7 @@ pub record Proper (h : Rulebook) (m : Terms) : Type 0 where
   pub giver-low : (d : Side) → giver d m < 64
   pub taker-low : (d : Side) → taker d m < 64
   pub apart : m.seller ≡ m.buyer → ⊥
-  pub asset-low : (d : Side) → asset d m < (h.kind d).items
+  pub asset-low : (d : Side) → asset d m < (h.book_kind d).items
   pub some-volume : (d : Side) → 0 < volume d m
 
 -- what carrying out rests on: terms are proper, and what a trade has blocked is there
@@ -42,7 +42,7 @@ module _ (P : Terms → Type 0) (st : ℕ → State) (tm : ℕ → Terms) (h : (
       (λ (y : eqb t u ≡ false). rw y (h u)) (cases_Bool (eqb t u))
 
 module _ (h : Rulebook) where
-  proper-step : (s : Standing) (x : Instruction) → ((t : ℕ) → (s.state t ≡ Unentered) ⊎ Proper h (s.terms t)) → (k : Act) (o : State) → s.state x.trade ≡ o → first (all_checks h k o (s.terms x.trade) s x) ≡ Ok tt → (t : ℕ) → (turned (after k) s.state x.trade t ≡ Unentered) ⊎ Proper h (terms_after (is_enter k) s.terms x t)
+  proper-step : (s : Standing) (x : Instruction) → ((t : ℕ) → (s.state t ≡ Unentered) ⊎ Proper h (s.terms t)) → (k : Act) (o : State) → s.state x.trade ≡ o → first_refusal (all_checks h k o (s.terms x.trade) s x) ≡ Ok tt → (t : ℕ) → (turned (after k) s.state x.trade t ≡ Unentered) ⊎ Proper h (terms_after (is_enter k) s.terms x t)
   proper-step s x q (Some Issue) o e p = q
   proper-step s x q (Some PayIn) o e p = q
   proper-step s x q None o e p = q
@@ -57,7 +57,7 @@ module _ (h : Rulebook) where
         giver-low = λ d. elim d as (λ d. giver d (terms_of x) < 64) [ securities ↦ seller | cash ↦ buyer ];
         taker-low = λ d. elim d as (λ d. taker d (terms_of x) < 64) [ securities ↦ buyer | cash ↦ seller ];
         apart = eqb-false _ _ c.0;
-        asset-low = λ d. elim d as (λ d. asset d (terms_of x) < (h.kind d).items) [ securities ↦ leb-false _ _ items.0 | cash ↦ leb-false _ _ items.1 ];
+        asset-low = λ d. elim d as (λ d. asset d (terms_of x) < (h.book_kind d).items) [ securities ↦ leb-false _ _ items.0 | cash ↦ leb-false _ _ items.1 ];
         some-volume = λ d. elim d as (λ d. 0 < volume d (terms_of x)) [ securities ↦ (let z = eqb-false x.quantity 0 some.0 in omega arith) | cash ↦ (let z = eqb-false x.amount 0 some.1 in omega arith) ];
       })
   proper-step s x q k o e p =
@@ -77,7 +77,7 @@ module _ (h : Rulebook) where
       let m = s.terms t in
       let f = fair h r d (giver d m) (asset d m) in
       let q = covers d (s.book d) s.state s.terms (credits (giver d m) (asset d m) d xs) (giver d m) (asset d m) t o Unentered l e f ho (holds-not d) in
-      let w : only (here (giver d m) (asset d m) (giver d m) (asset d m)) (volume d m) ≡ volume d m = rw (eq-eqb (giver d m) (giver d m) refl, eq-eqb (asset d m) (asset d m) refl) in
+      let w : amount_if (is_place (giver d m) (asset d m) (giver d m) (asset d m)) (volume d m) ≡ volume d m = rw (eq-eqb (giver d m) (giver d m) refl, eq-eqb (asset d m) (asset d m) refl) in
       omega (arith, q, w)
 
 pub safe : (h : Rulebook) (xs : List Instruction) (s : Standing) → Runs h xs s → Safe h s

@@ -3,9 +3,9 @@ use Rattle.std.proofs.Common.{◌≡◌, ℕ, ◌+◌, ◌<◌, ◌≤◌, Bool,
 use Rattle.std.proofs.lemmas.Bool.{cases_Bool, ltb-false}
 use Rattle.instruction.specs.declared.Kind.TheVariants.{Issue, PayIn, Enter, Earmark, Fund, Settle, Free}
 use Rattle.instruction.specs.declared.Instruction.{Instruction}
-use Rattle.book.specs.Sums.{only, here}
-use Rattle.book.specs.Holdings.{Holdings, keep, crediting, blocking, releasing, moving, apply}
-use Rattle.book.specs.Rulings.{first}
+use Rattle.book.specs.Sums.{amount_if, is_place}
+use Rattle.book.specs.Holdings.{Holdings, no_change, crediting, blocking, releasing, moving, apply}
+use Rattle.book.specs.Rulings.{first_refusal}
 use Rattle.rulebook.specs.declared.State.{State}
 use Rattle.rulebook.specs.declared.State.TheVariants.{Entered, Earmarked, Funded, Settled, Freed}
 use Rattle.rulebook.specs.declared.Terms.{Terms}
@@ -25,10 +25,10 @@ pub record Fair (d : Side) (b : Holdings) (st : ℕ → State) (tm : ℕ → Ter
 module _ (d : Side) (b : Holdings) (st : ℕ → State) (tm : ℕ → Terms) (cr a i t : ℕ) (old new : State) (l : t < 128) (e : st t ≡ old) (h : Fair d b st tm cr a i) where
   -- what the trade counts for, as giver and as taker
   abbrev out : Terms → ℕ
-  out m = only (here (giver d m) (asset d m) a i) (volume d m)
+  out m = amount_if (is_place (giver d m) (asset d m) a i) (volume d m)
 
   abbrev inn : Terms → ℕ
-  inn m = only (here (taker d m) (asset d m) a i) (volume d m)
+  inn m = amount_if (is_place (taker d m) (asset d m) a i) (volume d m)
 
   -- nothing is blocked or released
   pub kept : (held : Bool) → is_settled old ≡ false → is_settled new ≡ false → holds d old ≡ held → holds d new ≡ held → Fair d b (at st t new) tm cr a i
@@ -74,7 +74,7 @@ entering d b st tm cr a i t old m io ie e h =
     let n = enters (hold_of d a i) old (λ m. rw io.holds-none) (λ m. rw ie.holds-none) st tm t m e in
     record { whole = omega arith; part = omega arith }
 
-pub credited : (d : Side) (b : Holdings) (st : ℕ → State) (tm : ℕ → Terms) (cr a i A I q n : ℕ) → n ≡ only (here A I a i) q → Fair d b st tm cr a i → Fair d (apply b (crediting A I q)) st tm (cr + n) a i
+pub credited : (d : Side) (b : Holdings) (st : ℕ → State) (tm : ℕ → Terms) (cr a i A I q n : ℕ) → n ≡ amount_if (is_place A I a i) q → Fair d b st tm cr a i → Fair d (apply b (crediting A I q)) st tm (cr + n) a i
 credited d b st tm cr a i A I q n e h = record { whole = omega (arith, h.whole); part = h.part }
 
 pub uncredited : (d : Side) (b : Holdings) (st : ℕ → State) (tm : ℕ → Terms) (cr a i n : ℕ) → n ≡ 0 → Fair d b st tm cr a i → Fair d b st tm (cr + n) a i
@@ -90,8 +90,8 @@ holds-freed cash = refl
 
 -- what an instruction of a kind credits
 abbrev pub credited_by : Act → Side → Instruction → ℕ → ℕ → ℕ
-credited_by (Some Issue) securities x a i = only (here x.account x.item a i) x.quantity
-credited_by (Some PayIn) cash x a i = only (here x.account x.currency a i) x.amount
+credited_by (Some Issue) securities x a i = amount_if (is_place x.account x.item a i) x.quantity
+credited_by (Some PayIn) cash x a i = amount_if (is_place x.account x.currency a i) x.amount
 credited_by k d x a i = 0
 
 module _ (h : Rulebook) (s : Standing) (x : Instruction) (a i : ℕ) where
@@ -99,7 +99,7 @@ module _ (h : Rulebook) (s : Standing) (x : Instruction) (a i : ℕ) where
   m = s.terms x.trade
 
   abbrev Accepted : Act → State → Type 0
-  Accepted k o = first (all_checks h k o m s x) ≡ Ok tt
+  Accepted k o = first_refusal (all_checks h k o m s x) ≡ Ok tt
 
   abbrev Next : Act → Side → State → ℕ → Type 0
   Next k d o cr = Fair d (apply (s.book d) (deed k d o m x)) (turned (after k) s.state x.trade) (terms_after (is_enter k) s.terms x) cr a i
@@ -137,8 +137,8 @@ module _ (h : Rulebook) (s : Standing) (x : Instruction) (a i : ℕ) where
       let r = right h (Some Free) o m s x tt p in
       let w = free-from h o r.from in
       uncredited _ _ _ _ _ _ _ n c
-      (⊎_elim (λ (y : holds d o ≡ true). subst (λ v. Fair d (apply (s.book d) (cond v (releasing (giver d m) (asset d m) (volume d m)) keep)) (at s.state x.trade Freed) s.terms cr a i) (sym y)
+      (⊎_elim (λ (y : holds d o ≡ true). subst (λ v. Fair d (apply (s.book d) (cond v (releasing (giver d m) (asset d m) (volume d m)) no_change)) (at s.state x.trade Freed) s.terms cr a i) (sym y)
       (releases d (s.book d) s.state s.terms cr a i x.trade o Freed r.low e f w refl y (holds-freed d)))
-      (λ (y : holds d o ≡ false). subst (λ v. Fair d (apply (s.book d) (cond v (releasing (giver d m) (asset d m) (volume d m)) keep)) (at s.state x.trade Freed) s.terms cr a i) (sym y)
+      (λ (y : holds d o ≡ false). subst (λ v. Fair d (apply (s.book d) (cond v (releasing (giver d m) (asset d m) (volume d m)) no_change)) (at s.state x.trade Freed) s.terms cr a i) (sym y)
       (kept d (s.book d) s.state s.terms cr a i x.trade o Freed r.low e f false w refl y (holds-freed d)))
       (cases_Bool (holds d o)))

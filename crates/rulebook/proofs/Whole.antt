@@ -4,7 +4,7 @@ use Rattle.std.proofs.lemmas.List.Sums.{fold_push, sum_by_push}
 use Rattle.instruction.specs.declared.Instruction.{Instruction}
 use Rattle.instruction.specs.Kinds.{kind_at}
 use Rattle.book.specs.Holdings.{nothing}
-use Rattle.book.proofs.Sums.{up_to-zero}
+use Rattle.book.proofs.Sums.{sum_below-zero}
 use Rattle.rulebook.specs.declared.State.TheVariants.{Unentered}
 use Rattle.rulebook.specs.Table.{after}
 use Rattle.rulebook.specs.Terms.{no_terms, Side, securities, cash}
@@ -34,9 +34,9 @@ module _ (h : Rulebook) where
 
   fair-start : (d : Side) (a i : ℕ) → Fair d (nothing) (λ t. Unentered) (λ t. no_terms) 0 a i
   fair-start d a i =
-      let g = up_to-zero 128 (λ t. give_of d a i Unentered no_terms) (λ t. refl) in
-      let k = up_to-zero 128 (λ t. take_of d a i Unentered no_terms) (λ t. refl) in
-      let m = up_to-zero 128 (λ t. hold_of d a i Unentered no_terms) (λ t. holds-none d) in
+      let g = sum_below-zero 128 (λ t. give_of d a i Unentered no_terms) (λ t. refl) in
+      let k = sum_below-zero 128 (λ t. take_of d a i Unentered no_terms) (λ t. refl) in
+      let m = sum_below-zero 128 (λ t. hold_of d a i Unentered no_terms) (λ t. holds-none d) in
       record { whole = omega arith; part = omega arith }
     where
       holds-none : (d : Side) → hold_of d a i Unentered no_terms ≡ 0

@@ -19,7 +19,7 @@ pub record Balanced (d : Side) (xs : List Instruction) (s : Standing) (a i : ℕ
 
 -- A list of accepted instructions says where things stand: each trade's state and terms, and each
 -- account's amounts of each item.
-pub record SaidBy (xs : List Instruction) (s : Standing) : Type 0 where
+pub record Determines (xs : List Instruction) (s : Standing) : Type 0 where
   -- a trade of which the list has no instruction was never entered
   pub unentered : (t : ℕ) → Never (On t) xs → s.state t ≡ Unentered
   -- any other trade's state is that after its last instruction
@@ -29,17 +29,17 @@ pub record SaidBy (xs : List Instruction) (s : Standing) : Type 0 where
   pub amounts : (d : Side) (a i : ℕ) → Balanced d xs s a i
 
 abbrev pub LawOfTheLedger : Type 0
-LawOfTheLedger = (h : Rulebook) (xs : List Instruction) (s : Standing) → Runs h xs s → SaidBy xs s
+LawOfTheLedger = (h : Rulebook) (xs : List Instruction) (s : Standing) → Runs h xs s → Determines xs s
 
 -- What an accepted instruction has the books do, they accept: a Settle or a Free never finds too
 -- little blocked.
 abbrev pub CarriedOut : Rulebook → Standing → Instruction → Type 0
 CarriedOut h s x =
     answer h s x ≡ Ok tt → (d : Side)
-    → ruling (h.kind d) (s.book d) (deed (kind_at x.kind) d (s.state x.trade) (s.terms x.trade) x) ≡ Ok tt
+    → ruling (h.book_kind d) (s.book d) (deed (kind_at x.kind) d (s.state x.trade) (s.terms x.trade) x) ≡ Ok tt
 
 -- An instruction was given where a list of accepted instructions had led.
-pub record Given (h : Rulebook) (before now-standing : Standing) (x : Instruction) : Type 0 where
+pub record FollowsRules (h : Rulebook) (before now-standing : Standing) (x : Instruction) : Type 0 where
   -- books and trades are those of the rules
   pub after : now-standing ≡ step h before x
   -- and accepted instructions lead here too
@@ -51,6 +51,6 @@ pub record Given (h : Rulebook) (before now-standing : Standing) (x : Instructio
       → Steps (before.state x.trade) x.kind (now-standing.state x.trade)
 
 -- in words: a refused instruction leaves books and trades as they were
-abbrev pub KeptIfRefused : {X E : Type 0} → Result X E → Standing → Standing → Type 0
-KeptIfRefused (Ok u) before now-standing = Unit {0}
-KeptIfRefused (Err f) before now-standing = now-standing ≡ before
+abbrev pub RefusalChangesNothing : {X E : Type 0} → Result X E → Standing → Standing → Type 0
+RefusalChangesNothing (Ok u) before now-standing = Unit {0}
+RefusalChangesNothing (Err f) before now-standing = now-standing ≡ before

@@ -1,15 +1,16 @@
 -- The rule book: what an instruction is answered, and what an accepted one changes.
 use Rattle.std.specs.Prelude.{◌≡◌, ℕ, ◌≤◌, Bool, true, false, cond, not, ◌||◌, T, leb, List, [], ◌∷◌, ◌++◌, Some, None, Ok, Err, Option, Result, ◌==◌, nat_eq, nat_le, nat_lt}
 use Rattle.std.specs.Option.{option_map}
-use Rattle.answers.specs.declared.Refusal.{Refusal}
-use Rattle.answers.specs.declared.Fault.{Fault}
-use Rattle.answers.specs.Faults.{plain, of_trade}
+use Rattle.refusals.specs.declared.Refusal.{Refusal}
+use Rattle.refusals.specs.declared.Fault.{Fault}
+use Rattle.refusals.specs.Faults.{plain, of_trade}
 use Rattle.instruction.specs.declared.Kind.TheVariants.{Issue, PayIn, Enter, Earmark, Fund, Settle, Free}
 use Rattle.instruction.specs.declared.Instruction.{Instruction}
 use Rattle.instruction.specs.Kinds.{kind_at}
 use Rattle.book.specs.declared.TheConstants.{ACCOUNTS}
-use Rattle.book.specs.Holdings.{Holdings, BookKind, nothing, Deed, keep, crediting, blocking, releasing, moving, apply}
-use Rattle.book.specs.Rulings.{Check, ◌refuses◌, first, checks, on_ok}
+use Rattle.book.specs.Holdings.{Holdings, BookKind, nothing, Deed, no_change, crediting, blocking, releasing, moving, apply}
+use Rattle.refusals.specs.Answers.{if_ok}
+use Rattle.book.specs.Rulings.{Check, ◌refuses◌, first_refusal, checks}
 use Rattle.rulebook.specs.declared.TheConstants.{TRADES}
 use Rattle.rulebook.specs.declared.State.{State}
 use Rattle.rulebook.specs.declared.State.TheVariants.{Unentered, Earmarked, Funded, Settled}
@@ -20,7 +21,7 @@ use Rattle.rulebook.specs.Terms.{no_terms, terms_of, Side, securities, cash, giv
 
 -- what is fixed before the first instruction: the kinds of the register and of the cash book
 pub record Rulebook : Type 0 where
-  pub kind : Side → BookKind
+  pub book_kind : Side → BookKind
 
 -- where a ledger stands: the two books, and each trade's state and terms
 pub record Standing : Type 0 where
@@ -82,16 +83,16 @@ module _ (h : Rulebook) where
   enter_checks x =
       nat_eq x.account x.counterparty refuses 33
       ∷ (nat_le ACCOUNTS x.account || nat_le ACCOUNTS x.counterparty) refuses 21
-      ∷ (nat_le (h.kind securities).items x.item || nat_le (h.kind cash).items x.currency)
+      ∷ (nat_le (h.book_kind securities).items x.item || nat_le (h.book_kind cash).items x.currency)
       refuses 22
       ∷ (x.quantity == 0 || x.amount == 0) refuses 23 ∷ []
 
   -- the checks of each kind, the trade being in state o on terms m
   abbrev pub checks_of : Act → State → Terms → Standing → Instruction → List Check
   checks_of (Some Issue) o m s x =
-      checks (h.kind securities) (s.book securities) (crediting x.account x.item x.quantity)
+      checks (h.book_kind securities) (s.book securities) (crediting x.account x.item x.quantity)
   checks_of (Some PayIn) o m s x =
-      checks (h.kind cash) (s.book cash) (crediting x.account x.currency x.amount)
+      checks (h.book_kind cash) (s.book cash) (crediting x.account x.currency x.amount)
   checks_of (Some Enter) o m s x = trade_checks (Some Enter) 34 o x (enter_checks x)
   checks_of (Some Earmark) o m s x =
       trade_checks (Some Earmark) 35 o x (enough_free securities m s ∷ [])
@@ -105,7 +106,7 @@ module _ (h : Rulebook) where
 
   -- the answer to an instruction of this kind, and of the kind that its kind byte says
   abbrev pub answer_as : Act → Standing → Instruction → Result (Unit {0}) Refusal
-  answer_as k s x = first (all_checks k (s.state x.trade) (s.terms x.trade) s x)
+  answer_as k s x = first_refusal (all_checks k (s.state x.trade) (s.terms x.trade) s x)
 
   abbrev pub answer : Standing → Instruction → Result (Unit {0}) Refusal
   answer s x = answer_as (kind_at x.kind) s x
@@ -125,8 +126,8 @@ abbrev pub OfTrade : Act → Type 0
 OfTrade k = T (names_trade k)
 
 -- its fault says which
-abbrev pub about : Instruction → Fault → Fault
-about x f = cond (names_trade (kind_at x.kind)) (of_trade x.trade f) f
+abbrev pub fault_about : Instruction → Fault → Fault
+fault_about x f = cond (names_trade (kind_at x.kind)) (of_trade x.trade f) f
 
 -- By the kind bytes: at 3 to 7 the fault names the trade, at any other it names what it named; and it
 -- is as it was in all else.
@@ -140,14 +141,14 @@ pub record IsAbout (x : Instruction) (f about-x : Fault) : Type 0 where
 
 -- so does its refusal
 abbrev pub fault_of : Instruction → Refusal → Fault
-fault_of x r = about x (plain r)
+fault_of x r = fault_about x (plain r)
 
 abbrev pub with_trade : Instruction → Result (Unit {0}) Refusal → Result (Unit {0}) Fault
 with_trade x (Ok u) = Ok u
 with_trade x (Err r) = Err (fault_of x r)
 
-abbrev pub verdict : Rulebook → Standing → Instruction → Result (Unit {0}) Fault
-verdict h s x = with_trade x (answer h s x)
+abbrev pub fault_answer : Rulebook → Standing → Instruction → Result (Unit {0}) Fault
+fault_answer h s x = with_trade x (answer h s x)
 
 -- a function changed at one place
 abbrev pub at : {X : Type 0} → (ℕ → X) → ℕ → X → ℕ → X
@@ -176,17 +177,17 @@ turned_trade k x trade =
 -- blocked
 abbrev pub deed : Act → Side → State → Terms → Instruction → Deed
 deed (Some Issue) securities o m x = crediting x.account x.item x.quantity
-deed (Some Issue) cash o m x = keep
-deed (Some PayIn) securities o m x = keep
+deed (Some Issue) cash o m x = no_change
+deed (Some PayIn) securities o m x = no_change
 deed (Some PayIn) cash o m x = crediting x.account x.currency x.amount
-deed (Some Enter) d o m x = keep
+deed (Some Enter) d o m x = no_change
 deed (Some Earmark) securities o m x = blocking m.seller m.item m.quantity
-deed (Some Earmark) cash o m x = keep
-deed (Some Fund) securities o m x = keep
+deed (Some Earmark) cash o m x = no_change
+deed (Some Fund) securities o m x = no_change
 deed (Some Fund) cash o m x = blocking m.buyer m.currency m.amount
 deed (Some Settle) d o m x = moving (giver d m) (taker d m) (asset d m) (volume d m)
-deed (Some Free) d o m x = cond (holds d o) (releasing (giver d m) (asset d m) (volume d m)) keep
-deed None d o m x = keep
+deed (Some Free) d o m x = cond (holds d o) (releasing (giver d m) (asset d m) (volume d m)) no_change
+deed None d o m x = no_change
 
 -- what an accepted instruction changes
 abbrev pub effect : Standing → Instruction → Standing
@@ -202,7 +203,7 @@ effect s x =
 
 -- an accepted instruction takes effect, a refused one changes nothing
 abbrev pub step : Rulebook → Standing → Instruction → Standing
-step h s x = on_ok (answer h s x) (effect s x) s
+step h s x = if_ok (answer h s x) (effect s x) s
 
 -- the list, from the empty standing, is accepted one instruction after another and leads to s
 pub data Runs (h : Rulebook) : List Instruction → Standing → Type 0 where

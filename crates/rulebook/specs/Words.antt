@@ -52,6 +52,6 @@ pub record OneLast (P : Instruction → Type 0) : Type 0 where
   pub one : (xs : List Instruction) (x y : Instruction) → Last P x xs → Last P y xs → x ≡ y
 
 -- So every list says one thing of a trade's state, and one of its terms.
-pub record LastWords : Type 0 where
+pub record LastsAreUnique : Type 0 where
   pub of-trade : (t : ℕ) → OneLast (On t)
   pub of-enter : (t : ℕ) → OneLast (EnterOn t)

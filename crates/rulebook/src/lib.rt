@@ -4,10 +4,10 @@
 ghost use Rattle.std.specs.Prelude.{◌≡◌, Some};
 ghost use Rattle.rulebook.specs.Table.{next as next_state};
 ghost use Rattle.rulebook.specs.Terms.{terms_of};
-ghost use Rattle.rulebook.specs.Rules.{turned_trade, about as about_trade, IsAbout};
+ghost use Rattle.rulebook.specs.Rules.{turned_trade, fault_about as about_trade, IsAbout};
 
-use answers::Fault;
 use instruction::{Instruction, Kind};
+use refusals::Fault;
 
 // How many trades there are, numbered from 0.
 pub const TRADES: usize = 128;
@@ -84,7 +84,7 @@ impl Trade {
 }
 
 // A fault of an instruction that is about a trade names that trade.
-pub fn about(x: &Instruction, fault: Fault) -> Fault
+pub fn fault_about(x: &Instruction, fault: Fault) -> Fault
     ensures value { result ≡ about_trade x.now fault }
     ensures named { IsAbout x.now fault result }
 {

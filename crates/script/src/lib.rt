@@ -16,8 +16,8 @@ ghost use Rattle.script.specs.Requests.{field_of, past, then, ended, instruction
 
 mod remains;
 
-use answers::Refusal;
 use instruction::{Instruction, Kind};
+use refusals::Refusal;
 pub use remains::Remains;
 use std::num::TryFromIntError;
 

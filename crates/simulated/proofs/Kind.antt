@@ -2,7 +2,7 @@
 use Rattle.std.proofs.Common.{◌≡◌, ℕ, List, Ok, Err, sym, ◌∙◌}
 use Rattle.device.specs.Calls.{Answer, spend_answer}
 use Rattle.device.specs.Images.{blocks}
-use Rattle.device.specs.Traces.{reading, writing, syncing, restarting, Fixed, ReadsKeep}
+use Rattle.device.specs.Traces.{reading, writing, syncing, restarting, LeavesNothingOpen, ReadsKeep}
 use Rattle.device.proofs.Rows.{each-fixed}
 use Rattle.device.proofs.Traces.{ImageFixed, image-fixed}
 use Rattle.simulated.specs.Rows.{synced, restarted, ImageSynced, ImageAfter}
@@ -18,7 +18,7 @@ after-fixed (writing b bytes) xs left ys zs s t = s ∙ sym t
 after-fixed syncing xs left ys zs s t = sync-fixed (spend_answer left) xs ys zs s t
 after-fixed (restarting calls remains) xs left ys zs s t = each-fixed 514 (restarted xs remains) (blocks 514 xs) xs ys zs s t
 
-pub fixed : Fixed state_of Makes
+pub fixed : LeavesNothingOpen state_of Makes
 fixed = image-fixed 514 4294967295 ImageAfter after-fixed state_of
 
 pub reads : ReadsKeep image_of Makes

@@ -5,7 +5,7 @@ use Rattle.std.proofs.lemmas.Bool.{cond-true}
 use Rattle.std.proofs.lemmas.List.{take_all, append_assoc, drop_at, get_or_at}
 use Rattle.device.specs.Bytes.{Bytes}
 use Rattle.device.specs.Images.{kept}
-use Rattle.device.proofs.Splices.{cut-bytes}
+use Rattle.device.proofs.Bytes.{cut-bytes}
 use Rattle.device.proofs.Meaning.{Shows}
 use Rattle.simulated.specs.Rows.{newer, is_loose, shown, written}
 

@@ -1,7 +1,8 @@
 -- The simulated image has 514 bytes a block. In such a row byte 0 is 0 if the block is readable, its 256 kept bytes
 -- follow, byte 257 is 0 if the block is not loose, and its 256 newer bytes follow. Assumes nothing.
 use Rattle.std.specs.Prelude.{◌≡◌, ℕ, zero, suc, ◌+◌, Bool, cond, not, List, ◌∷◌, ◌++◌, length, take, drop, replicate, Some, Ok, Err, Option, ◌==◌, slice_index}
-use Rattle.device.specs.Calls.{Answer, admitted, if_ok, spend_answer}
+use Rattle.refusals.specs.Answers.{if_ok}
+use Rattle.device.specs.Calls.{Answer, admitted, spend_answer}
 use Rattle.device.specs.Images.{blocks, row, put, kept, readable, held, EachRow}
 use Rattle.device.specs.Traces.{DeviceCall, reading, writing, syncing, restarting}
 

@@ -12,8 +12,8 @@ mod rows;
 mod state;
 mod sweeps;
 
-use answers::Fault;
 use device::{Device, PoweredDevice};
+use refusals::Fault;
 use rows::{Halves, row_is_loose};
 pub use state::Simulated;
 use sweeps::restart_all;
@@ -23,7 +23,7 @@ impl Device for Simulated {
 
     ghost makes = { Makes };
 
-    ghost bounds = { λ d. bounded 514 shown is_loose shows d.rows.image.items d.rows.left d.rows.calls d.rows.bytes };
+    ghost bounds = { λ d. bounded 514 shown is_loose shows d.rows.image.items d.rows.calls_left d.rows.calls d.rows.bytes };
 
     fn size(&self) -> u32 {
         self.rows.size
@@ -49,12 +49,12 @@ impl Device for Simulated {
 }
 
 impl PoweredDevice for Simulated {
-    ghost most = { 4294967295 };
+    ghost most_calls = { 4294967295 };
 
     ghost limit = { Prim.search rules };
 
     fn restart(&mut self, calls: u32, remains: &[u8]) {
-        self.rows.left = calls;
+        self.rows.calls_left = calls;
         restart_all(&mut self.rows, remains);
         self.loose.clear(*self.rows.image.allocator());
     }

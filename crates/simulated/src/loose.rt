@@ -62,7 +62,7 @@ impl LooseBlocks {
     pub(crate) fn sync(&self, rows: &mut Imaged<ROW>)
         requires { Lists self.now.list rows.old.image.items }
         ensures image { EachRow 514 synced rows.old.size rows.old.image.items rows.new.image.items }
-        ensures left { rows.new.left ≡ rows.old.left }
+        ensures calls_left { rows.new.calls_left ≡ rows.old.calls_left }
     {
         match &self.list {
             Some(list) => sync_listed(rows, list.as_slice()),

@@ -7,7 +7,7 @@ ghost use Rattle.device.specs.Images.{kept};
 ghost use Rattle.simulated.specs.Rows.{is_loose, newer, shown, written, keeping, synced, torn, revived};
 ghost use Rattle.simulated.specs.RowLaws.{written-full, written-shown};
 
-use device::{BLOCK, Layout, held_bytes};
+use device::{BLOCK_SIZE, RowFormat, held_bytes};
 use std::slice::Iter;
 
 pub(crate) const ROW: usize = 514;
@@ -15,14 +15,14 @@ pub(crate) const ROW: usize = 514;
 // The layout of a row that keeps its old bytes beside newer ones until a sync.
 pub(crate) struct Halves;
 
-impl Layout<ROW> for Halves {
+impl RowFormat<ROW> for Halves {
     ghost shown = { shown };
 
     ghost is_loose = { is_loose };
 
     ghost written = { written };
 
-    fn show(row: &[u8; ROW]) -> Option<&[u8; BLOCK]> {
+    fn show(row: &[u8; ROW]) -> Option<&[u8; BLOCK_SIZE]> {
         if row_is_loose(row) {
             Some(newer_bytes(row))
         } else {
@@ -31,7 +31,7 @@ impl Layout<ROW> for Halves {
     }
 
     #[tactic(auto, using(crate::proofs::RowLaws::written_is))]
-    fn store(row: &mut [u8; ROW], bytes: &[u8; BLOCK]) {
+    fn store(row: &mut [u8; ROW], bytes: &[u8; BLOCK_SIZE]) {
         row[257] = 1;
         row[258..].copy_from_slice(bytes);
     }
@@ -47,20 +47,20 @@ pub(crate) fn row_is_loose(row: &[u8; ROW]) -> bool
     row[257] != 0
 }
 
-fn kept_bytes(row: &[u8; ROW]) -> &[u8; BLOCK]
+fn kept_bytes(row: &[u8; ROW]) -> &[u8; BLOCK_SIZE]
     ensures { result.now ≡ kept row.now }
 {
     row[1..257].as_array().unwrap()
 }
 
-fn newer_bytes(row: &[u8; ROW]) -> &[u8; BLOCK]
+fn newer_bytes(row: &[u8; ROW]) -> &[u8; BLOCK_SIZE]
     ensures { result.now ≡ newer row.now }
 {
     row[258..514].as_array().unwrap()
 }
 
 // Gives a row its first byte and its kept bytes, and makes it not loose.
-fn keep(row: &mut [u8; ROW], flag: u8, bytes: &[u8; BLOCK])
+fn keep(row: &mut [u8; ROW], flag: u8, bytes: &[u8; BLOCK_SIZE])
     ensures { row.new ≡ keeping flag bytes.now row.old }
 {
     row[0] = flag;
@@ -85,7 +85,7 @@ fn keep_newer(row: &mut [u8; ROW])
 }
 
 // The first 128 newer bytes and the last 128 kept ones.
-fn tear(row: &[u8; ROW]) -> [u8; BLOCK]
+fn tear(row: &[u8; ROW]) -> [u8; BLOCK_SIZE]
     ensures { result ≡ torn row.now }
 {
     let mut bytes = *kept_bytes(row);
@@ -120,7 +120,7 @@ fn revive(row: &mut [u8; ROW], byte: u8)
             keep(row, 0, &bytes);
         }
         3 => mark(row, 1),
-        _ => keep(row, 0, &[byte; BLOCK]),
+        _ => keep(row, 0, &[byte; BLOCK_SIZE]),
     }
 }
 

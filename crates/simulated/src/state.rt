@@ -17,7 +17,7 @@ pub struct Simulated {
 }
 
 impl Simulated {
-    ghost use Rattle.device.specs.Traces.{Fixed, ReadsKeep};
+    ghost use Rattle.device.specs.Traces.{LeavesNothingOpen, ReadsKeep};
     ghost use Rattle.device.specs.Images.{blocks};
     ghost use Rattle.simulated.specs.Meaning.{image_of, state_of, meaning, Makes};
 
@@ -28,8 +28,8 @@ impl Simulated {
 
         // as many blocks as the image has whole rows, at most 65,535, and so many calls
         ensures size { (meaning result).size ≡ blocks 514 image.items }
-        ensures calls_left { (meaning result).left ≡ calls }
-        ensures fixed { Fixed state_of Makes }
+        ensures calls_left { (meaning result).calls_left ≡ calls }
+        ensures fixed { LeavesNothingOpen state_of Makes }
         ensures reads { ReadsKeep image_of Makes }
     {
         let rows = Imaged::new(image, calls);

@@ -14,7 +14,7 @@ fn sync_block(rows: &mut Imaged<ROW>, block: u32)
     requires { block < rows.old.size }
     ensures image { let xs = rows.old.image.items in rows.new.image.items ≡ put 514 xs block (synced 0 (row 514 xs block)) }
     ensures size { rows.new.size ≡ rows.old.size }
-    ensures left { rows.new.left ≡ rows.old.left }
+    ensures calls_left { rows.new.calls_left ≡ rows.old.calls_left }
 {
     let at = ROW * block as usize;
     let image = rows.image.as_mut_slice();
@@ -24,7 +24,7 @@ fn sync_block(rows: &mut Imaged<ROW>, block: u32)
 // Syncs every loose row.
 pub(crate) fn sync_all(rows: &mut Imaged<ROW>)
     ensures image { EachRow 514 synced rows.old.size rows.old.image.items rows.new.image.items }
-    ensures left { rows.new.left ≡ rows.old.left }
+    ensures calls_left { rows.new.calls_left ≡ rows.old.calls_left }
 {
     for b in 0..rows.size {
         sync_block(rows, b);
@@ -37,7 +37,7 @@ fn sync_named(rows: &mut Imaged<ROW>, block: u32)
         let r = synced 0 (row 514 xs block) in
         rows.new.image.items ≡ (if nat_lt block rows.old.size then put 514 xs block r else xs) }
     ensures size { rows.new.size ≡ rows.old.size }
-    ensures left { rows.new.left ≡ rows.old.left }
+    ensures calls_left { rows.new.calls_left ≡ rows.old.calls_left }
 {
     if block < rows.size {
         sync_block(rows, block);
@@ -47,7 +47,7 @@ fn sync_named(rows: &mut Imaged<ROW>, block: u32)
 // Syncs the loose rows of the blocks on a list.
 pub(crate) fn sync_listed(rows: &mut Imaged<ROW>, list: &[u32])
     ensures image { EachRow 514 (synced_if list.now) rows.old.size rows.old.image.items rows.new.image.items }
-    ensures left { rows.new.left ≡ rows.old.left }
+    ensures calls_left { rows.new.calls_left ≡ rows.old.calls_left }
 {
     for b in list {
         sync_named(rows, *b);
@@ -59,7 +59,7 @@ fn restart_block(rows: &mut Imaged<ROW>, block: u32, remains: &mut Iter<'_, u8>)
     requires { block < rows.old.size }
     ensures image { let xs = rows.old.image.items in let r = row 514 xs block in rows.new.image.items ≡ put 514 xs block (if is_loose r then revived (slice_index (iter_rest remains.old) 0) r else r) }
     ensures size { rows.new.size ≡ rows.old.size }
-    ensures left { rows.new.left ≡ rows.old.left }
+    ensures calls_left { rows.new.calls_left ≡ rows.old.calls_left }
     ensures taken { iter_rest remains.new ≡ (if is_loose (row 514 rows.old.image.items block) then drop 1 (iter_rest remains.old) else iter_rest remains.old) }
 {
     let at = ROW * block as usize;
@@ -70,7 +70,7 @@ fn restart_block(rows: &mut Imaged<ROW>, block: u32, remains: &mut Iter<'_, u8>)
 // Restarts each row: the loose ones take the bytes of the remains in turn.
 pub(crate) fn restart_all(rows: &mut Imaged<ROW>, remains: &[u8])
     ensures image { EachRow 514 (restarted rows.old.image.items remains.now) rows.old.size rows.old.image.items rows.new.image.items }
-    ensures left { rows.new.left ≡ rows.old.left }
+    ensures calls_left { rows.new.calls_left ≡ rows.old.calls_left }
 {
     let mut to_take = remains.iter();
     for block in 0..rows.size {

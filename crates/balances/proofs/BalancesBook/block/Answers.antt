@@ -1,5 +1,5 @@
 use Rattle.std.proofs.Common.{rules}
-use Rattle.answers.specs.declared.Refusal.TheVariants.{OverFree}
+use Rattle.refusals.specs.declared.Refusal.TheVariants.{OverFree}
 use Rattle.book.proofs.Accepted.{covers-ok}
 use Rattle.balances.proofs.Deeds.{block-done, held-room}
 use Rattle.balances.proofs.BalancesBook.block.Goals as goal

@@ -1,5 +1,5 @@
 use Rattle.std.proofs.Common.{rules}
-use Rattle.answers.specs.declared.Refusal.TheVariants.{OverBlocked}
+use Rattle.refusals.specs.declared.Refusal.TheVariants.{OverBlocked}
 use Rattle.balances.proofs.Deeds.{move-done, move-room}
 use Rattle.balances.proofs.BalancesBook.transfer.Goals as goal
 

@@ -15,7 +15,7 @@ returns-in_err-sync-clause-trace g c =
     let w = c.in_ok-write.ensures.call in
     let p = write-passed w in
     let s = sync-refused c.in_err-sync.ensures.call in
-    traced-lasting g.D.Device.makes _ _ 2 _ _ (omega (arith, w.left, p.calls, s.1)) (_, rw c.record_block.ensures.value at c.write.ensures.kind, (_, c.sync.ensures.kind, refl))
+    traced-lasting g.D.Device.makes _ _ 2 _ _ (omega (arith, w.calls_left, p.calls, s.1)) (_, rw c.record_block.ensures.value at c.write.ensures.kind, (_, c.sync.ensures.kind, refl))
 
 pub returns-in_err-write-2-clause-trace : goal.returns-in_err-write-2-clause-trace
 returns-in_err-write-2-clause-trace g c =
@@ -24,7 +24,7 @@ returns-in_err-write-2-clause-trace g c =
     let s = c.in_ok-sync.ensures.call in
     let q = sync-passed s in
     let r = write-refused (rw c.mark_block.ensures.value at c.in_err-write-2.ensures.call) (omega (arith, c.requires.within, s.size, w.elsewhere.size)) refl in
-    traced-lasting g.D.Device.makes _ _ 3 _ _ (omega (arith, w.left, p.calls, s.left, q, r.1))
+    traced-lasting g.D.Device.makes _ _ 3 _ _ (omega (arith, w.calls_left, p.calls, s.calls_left, q, r.1))
     (_, rw c.record_block.ensures.value at c.write.ensures.kind, (_, c.sync.ensures.kind, (_, rw c.mark_block.ensures.value at c.write-2.ensures.kind, refl)))
 
 pub returns-clause-trace : goal.returns-clause-trace
@@ -34,7 +34,7 @@ returns-clause-trace g c =
     let s = c.in_ok-sync.ensures.call in
     let q = sync-passed s in
     let r = write-passed c.in_ok-write-2.ensures.call in
-    traced-lasting g.D.Device.makes _ _ 4 _ _ (omega (arith, w.left, p.calls, s.left, q, r.calls))
+    traced-lasting g.D.Device.makes _ _ 4 _ _ (omega (arith, w.calls_left, p.calls, s.calls_left, q, r.calls))
     (_, rw c.record_block.ensures.value at c.write.ensures.kind, (_, c.sync.ensures.kind, (_, rw c.mark_block.ensures.value at c.write-2.ensures.kind, (_, c.sync-2.ensures.kind, refl))))
 
 pub returns-in_err-write-2-clause-after : goal.returns-in_err-write-2-clause-after

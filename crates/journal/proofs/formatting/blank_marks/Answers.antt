@@ -12,7 +12,7 @@ returns-in_err-write-clause-trace g c =
     let i = c.loop-entry.invariant in
     let k = c.loop-entry.entry in
     let none = (write-refused c.in_err-write.ensures.call (omega (arith, i.0.size, c.requires.within, c.loop-entry-test.true)) refl).1 in
-    marks-cut g.D.Device.makes _ _ _ k c.args.pairs _ (omega (arith, i.0.left, none)) c.loop-entry-test.true i.1 c.write.ensures.kind
+    marks-cut g.D.Device.makes _ _ _ k c.args.pairs _ (omega (arith, i.0.calls_left, none)) c.loop-entry-test.true i.1 c.write.ensures.kind
 
 pub loop-entry-init : goal.loop-entry-init
 loop-entry-init g c = (none-blank _, rw no-marks refl)
@@ -31,4 +31,4 @@ pub returns-clause-trace : goal.returns-clause-trace
 returns-clause-trace g c =
     let i = c.loop-entry.invariant in
     let full : c.loop-entry.entry ≡ c.args.pairs = omega arith in
-    marks-synced g.D.Device.makes _ _ _ c.args.pairs _ (omega (arith, i.0.left)) (rw full at i.1) c.sync.ensures.kind
+    marks-synced g.D.Device.makes _ _ _ c.args.pairs _ (omega (arith, i.0.calls_left)) (rw full at i.1) c.sync.ensures.kind

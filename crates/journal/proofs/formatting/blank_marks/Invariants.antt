@@ -1,4 +1,4 @@
-use Rattle.device.specs.Traces.{Traced}
+use Rattle.device.specs.Traces.{IsTrace}
 use Rattle.journal.specs.Format.{mark_writes}
 use Rattle.journal.proofs.Blanks.{Blanking}
 use Rattle.journal.proofs.formatting.blank_marks.Given as goal
@@ -6,4 +6,4 @@ use Rattle.journal.proofs.formatting.blank_marks.Given as goal
 abbrev pub invariant-loop-entry : goal.invariant-loop-entry
 invariant-loop-entry g l =
     Blanking l.entry (g.D.Device.medium l.initial.device) (g.D.Device.medium l.device)
-    × Traced g.D.Device.makes (mark_writes l.entry) l.initial.device l.device
+    × IsTrace g.D.Device.makes (mark_writes l.entry) l.initial.device l.device

@@ -6,7 +6,7 @@ use Rattle.ledger.proofs.Ledger.into_books.Goals as goal
 
 pub returns : goal.returns
 returns g c =
-    let e = stands g.R.Book g.C.Book c.self.inside.parts g.met.R.Book.outside g.met.C.Book.outside c.self.view_is in
+    let e = stands g.R.Book g.C.Book c.self.inside.parts g.met.R.Book.nothing_outside g.met.C.Book.nothing_outside c.self.view_is in
     record {
       register = sym (ap (λ (s : Standing). s.book securities) e);
       cash = sym (ap (λ (s : Standing). s.book cash) e);

@@ -1,5 +1,6 @@
 use Rattle.std.proofs.Common.{ℕ, ◌-◌, List, vec_items, ap, ◌∙◌, subst}
-use Rattle.device.specs.Calls.{Answer, if_ok}
+use Rattle.refusals.specs.Answers.{if_ok}
+use Rattle.device.specs.Calls.{Answer}
 use Rattle.device.specs.Images.{blocks, EachRow}
 use Rattle.device.proofs.Rows.{same-blocks}
 use Rattle.simulated.specs.Rows.{synced, ImageSynced}
@@ -23,19 +24,19 @@ returns c =
     let ys = c.sync.new.rows.image.items in
     let s = subst (λ (zs : List ℕ). EachRow 514 synced (blocks 514 zs) zs ys) (ap vec_items c.in_ok-spend.ensures.image)
     (subst (λ (n : ℕ). EachRow 514 synced n d.image.items ys) d.sized c.sync.ensures.image) in
-    let n = c.args.self.now.rows.left in
+    let n = c.args.self.now.rows.calls_left in
     let answer = c.in_ok-spend.ensures.answer in
-    let left = c.sync.ensures.left ∙ c.in_ok-spend.ensures.left in
+    let left = c.sync.ensures.calls_left ∙ c.in_ok-spend.ensures.calls_left in
     record {
       call = record {
         answer = answer;
-        left = left;
+        calls_left = left;
         size = same-blocks 514 xs ys s.len;
         holds = sync-holds xs ys s;
         loose = sync-firm xs ys s;
       };
       kind = record {
         image = subst (λ (r : Answer). ImageSynced r xs ys) answer s;
-        left = left ∙ ap (λ (r : Answer). if_ok r (n - 1) n) answer;
+        calls_left = left ∙ ap (λ (r : Answer). if_ok r (n - 1) n) answer;
       };
     }

@@ -28,5 +28,5 @@ loop-block-preserved c =
       c.restart_block.ensures.taken ∙ ap (λ (r : List ℕ). cond (is_loose r) (drop 1 to_take) to_take) next
           ∙ ap (λ (zs : List ℕ). cond (is_loose (row 514 xs b)) (drop 1 zs) zs) inv.1 ∙ taken-more xs rem b,
       c.restart_block.ensures.size ∙ inv.2,
-      c.restart_block.ensures.left ∙ inv.3,
+      c.restart_block.ensures.calls_left ∙ inv.3,
     )

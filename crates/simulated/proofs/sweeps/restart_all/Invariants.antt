@@ -9,4 +9,4 @@ invariant-loop-block l =
     EachRow 514 (restarted l.initial.rows.image.items l.remains) l.block l.initial.rows.image.items l.rows.image.items
     × (iter_rest l.to_take ≡ drop (loose_below l.initial.rows.image.items l.block) l.remains)
     × (l.rows.size ≡ l.initial.rows.size)
-    × (l.rows.left ≡ l.initial.rows.left)
+    × (l.rows.calls_left ≡ l.initial.rows.calls_left)

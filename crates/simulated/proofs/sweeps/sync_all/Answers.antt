@@ -16,5 +16,5 @@ loop-b-preserved c =
     let full = synced-full b (row 514 old b) (row-full 514 old b (omega (arith, fits, inv.0.len))) in (
       subst (λ (zs : List ℕ). EachRow 514 synced (b + 1) xs zs) (sym c.sync_block.ensures.image) (each-more 514 synced b xs old (synced b (row 514 old b)) fits inv.0 full refl),
       c.sync_block.ensures.size ∙ inv.1,
-      c.sync_block.ensures.left ∙ inv.2,
+      c.sync_block.ensures.calls_left ∙ inv.2,
     )

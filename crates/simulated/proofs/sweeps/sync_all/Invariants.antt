@@ -7,4 +7,4 @@ abbrev pub invariant-loop-b : goal.invariant-loop-b
 invariant-loop-b l =
     EachRow 514 synced l.b l.initial.rows.image.items l.rows.image.items
     × (l.rows.size ≡ l.initial.rows.size)
-    × (l.rows.left ≡ l.initial.rows.left)
+    × (l.rows.calls_left ≡ l.initial.rows.calls_left)

@@ -33,12 +33,12 @@ loop-b-preserved c =
             (listed-past size xs old list i within fits inv.0 (omega (arith, g, inv.1)))
       ],
       c.sync_named.ensures.size ∙ inv.1,
-      c.sync_named.ensures.left ∙ inv.2,
+      c.sync_named.ensures.calls_left ∙ inv.2,
     )
 
 pub returns : goal.returns
 returns c = record {
   image = subst (λ (zs : List ℕ). EachRow 514 (synced_if zs) c.args.rows.now.size c.args.rows.now.image.items c.loop-b.rows.image.items)
       (take_all c.loop-b.b-index c.args.list.now c.loop-b-test.false) c.loop-b.invariant.0;
-  left = c.loop-b.invariant.2;
+  calls_left = c.loop-b.invariant.2;
 }

@@ -1,10 +1,10 @@
 use Rattle.std.proofs.Common.{◌≡◌, [], ◌∷◌, ◌++◌, get_or, vec_items, sym, ap, subst, rules}
-use Rattle.ledger.specs.View.{rulebook}
+use Rattle.ledger.specs.View.{rulebook_of}
 use Rattle.depository.specs.declared.calls.Call.TheVariants.{Instruct, Restart, Ask}
-use Rattle.depository.specs.Orders.{Order, to_instruct, to_restart, to_ask, order}
+use Rattle.depository.specs.Orders.{Order, instruct_order, restart_order, ask_order, order}
 use Rattle.depository.specs.Moments.{moment_of}
 use Rattle.depository.specs.Handling.{device_of}
-use Rattle.depository.specs.Paths.{Path, done}
+use Rattle.depository.specs.Paths.{Path, no_calls}
 use Rattle.depository.proofs.Runs.{unasked, fit-of, next-call, next-order, asked-only, all-calls, means-it}
 use Rattle.depository.proofs.condition.Depository.run.Goals as goal
 use Rattle.depository.proofs.condition.Depository.run.Goals.{in-Instruct, in-Restart, in-Ask, in_default}
@@ -13,7 +13,7 @@ pub loop-call-init : goal.loop-call-init
 loop-call-init g c =
     let a = moment_of c.args.self in
     let d = device_of c.args.self.condition in
-    let start = subst (λ ys. Path g.D.Device.makes g.D.Device.medium (rulebook g.R.Book.fixed g.C.Book.fixed) g.D.PoweredDevice.most a d [] ys a d) (sym c.requires.none) (done (means-it c.args.self.condition)) in
+    let start = subst (λ ys. Path g.D.Device.makes g.D.Device.medium (rulebook_of g.R.Book.book_kind g.C.Book.book_kind) g.D.PoweredDevice.most_calls a d [] ys a d) (sym c.requires.none) (no_calls (means-it c.args.self.condition)) in
     (search rules, search rules, search rules, start)
 
 -- The call that is made is the next of the list, and its reply goes to the end of the replies.
@@ -26,14 +26,14 @@ loop-call-preserved g c =
     let n = c.loop-call.call-index in
     let makes = g.D.Device.makes in
     let means = g.D.Device.medium in
-    let h = rulebook g.R.Book.fixed g.C.Book.fixed in
-    let most = g.D.PoweredDevice.most in
+    let h = rulebook_of g.R.Book.book_kind g.C.Book.book_kind in
+    let most = g.D.PoweredDevice.most_calls in
     let old = vec_items c.loop-call.replies in
     let new = vec_items c.push_reserved.new.self in
     elim c.match-call.branch [
       | in-Instruct w ↦
           let e = w.instruct-reply.ensures in
-          let o : Order = to_instruct w.in-Instruct.x in
+          let o : Order = instruct_order w.in-Instruct.x in
           let next : get_or calls n unasked ≡ Instruct w.in-Instruct.x = assumption (w.in-Instruct.is) in
           let answered : new ≡ old ++ (w.instruct-reply.result ∷ []) = rw w.reply-is at p.items in (
             search rules,
@@ -43,8 +43,8 @@ loop-call-preserved g c =
           )
       | in-Restart w ↦
           let e = w.restart-reply.ensures in
-          let o : Order = to_restart w.in-Restart.calls w.in-Restart.remains.now in
-          let next : get_or calls n unasked ≡ Restart w.in-Restart.calls w.in-Restart.remains = assumption (w.in-Restart.is) in
+          let o : Order = restart_order w.in-Restart.calls_left w.in-Restart.remains.now in
+          let next : get_or calls n unasked ≡ Restart w.in-Restart.calls_left w.in-Restart.remains = assumption (w.in-Restart.is) in
           let answered : new ≡ old ++ (w.restart-reply.result ∷ []) = rw w.reply-is at p.items in (
             search rules,
             search rules,
@@ -52,7 +52,7 @@ loop-call-preserved g c =
             rw w.depository-is (next-order makes means h most unasked calls n o w.restart-reply.result c.loop-call-test.true i.3 (ap order next) (λ x same. absurd cc) e.does e.device (means-it w.restart-reply.new.self.condition) answered),
           )
       | in-Ask w ↦
-          let o : Order = to_ask w.in-Ask.question in
+          let o : Order = ask_order w.in-Ask.question in
           let next : get_or calls n unasked ≡ Ask w.in-Ask.question = assumption (w.in-Ask.is) in
           let answered : new ≡ old ++ (w.ask-reply.result ∷ []) = rw w.reply-is at p.items in (
             search rules,
@@ -72,4 +72,4 @@ loop-call-preserved g c =
 
 pub returns-clause-path : goal.returns-clause-path
 returns-clause-path g c =
-    assumption (all-calls g.D.Device.makes g.D.Device.medium (rulebook g.R.Book.fixed g.C.Book.fixed) g.D.PoweredDevice.most c.args.calls.now c.loop-call.call-index c.loop-call-test.false c.loop-call.invariant.3)
+    assumption (all-calls g.D.Device.makes g.D.Device.medium (rulebook_of g.R.Book.book_kind g.C.Book.book_kind) g.D.PoweredDevice.most_calls c.args.calls.now c.loop-call.call-index c.loop-call-test.false c.loop-call.invariant.3)

@@ -12,10 +12,10 @@ returns-clause-call g c =
     let xs = d.image.items in
     let b = c.args.block in
     let bytes = c.args.bytes.now in
-    let ok = admitted-as d.size (blocks w xs) d.left b (length bytes) d.sized c.in_ok-admit.ensures in
-    let here = passed (blocks w xs) d.left b (length bytes) ok in
+    let ok = admitted-as d.size (blocks w xs) d.calls_left b (length bytes) d.sized c.in_ok-admit.ensures in
+    let here = passed (blocks w xs) d.calls_left b (length bytes) ok in
     let wide = row-whole w xs b here.in-range in
     let whole : c.unwrap.result.now ≡ bytes = (rw c.unwrap.ensures at c.as_array.ensures.cases).same in
-    let r = g.L.Layout.written (row w xs b) bytes in
-    let shows = g.met.L.Layout.reads_back (row w xs b) bytes wide here.whole in
-    rw (c.store.ensures.image, c.store.ensures.left, whole) (write-row w g.L.Layout.shown g.L.Layout.is_loose xs d.left b bytes r ok (g.met.L.Layout.fills (row w xs b) bytes wide here.whole) shows)
+    let r = g.L.RowFormat.written (row w xs b) bytes in
+    let shows = g.met.L.RowFormat.reads_back (row w xs b) bytes wide here.whole in
+    rw (c.store.ensures.image, c.store.ensures.calls_left, whole) (write-row w g.L.RowFormat.shown g.L.RowFormat.is_loose xs d.calls_left b bytes r ok (g.met.L.RowFormat.fills (row w xs b) bytes wide here.whole) shows)

@@ -1,6 +1,6 @@
 use Rattle.std.proofs.Common.{◌≡◌, true, false, drop, Err, ap, ◌∙◌, rules}
 use Rattle.std.proofs.lemmas.List.{take_rest}
-use Rattle.answers.specs.declared.Refusal.TheVariants.{NotAHeader}
+use Rattle.refusals.specs.declared.Refusal.TheVariants.{NotAHeader}
 use Rattle.journal.specs.Blocks.{all_zero, header_in}
 use Rattle.journal.proofs.Trips.{reads-header, header-told}
 use Rattle.journal.proofs.header.Header.from_block.Goals as goal

@@ -13,5 +13,5 @@ returns-in-Some c =
     let named : Names list xs = rw c.in-Some.is at c.requires in
     record {
       image = listed-all d.size xs ys list d.sized named (subst (λ (zs : List ℕ). EachRow 514 (synced_if zs) d.size xs ys) c.as_slice.ensures.value c.sync_listed.ensures.image);
-      left = c.sync_listed.ensures.left;
+      calls_left = c.sync_listed.ensures.calls_left;
     }
