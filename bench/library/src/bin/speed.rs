@@ -94,7 +94,7 @@ impl Case {
         }
     }
 
-    /// A full journal, which both sides open.
+    /// Makes a full journal in the image. Each side fills it, and has to find every entry again.
     fn make_journal(&self, image: &mut [u8]) {
         let once = Trial { rounds: 1, ..self.fill() };
         for side in SIDES {
