@@ -1,26 +1,41 @@
-// An instruction to the depository, and its 32 bytes.
+//! An instruction to the depository: its kind, its fields, and its bytes.
+//!
+//! Instructions and their bytes match one to one: `to_bytes` promises it by its clauses `laid_out` and
+//! `read_back`, `from_bytes` by `exact`. Which fields a kind uses is stated once, by `Kind::uses`; the clause
+//! `law` of `has_stray_field` says it again, field by field.
 #![tactic(auto)]
 
 ghost use Rattle.std.specs.Prelude.{◌≡◌, ◌+◌, ◌≤◌, length, Ok};
 ghost use Rattle.instruction.specs.Kinds.{code_of, Decodes, KindsAndCodes};
+ghost use Rattle.instruction.specs.Fields.{value_of, uses, has_stray, StrayLaw};
 ghost use Rattle.instruction.specs.Layout.{of_kind, on_trade, bytes_of, instruction_in, number_at, LaidOut, Reads};
 
 use little_endian::LittleEndian;
 use refusals::Refusal;
 
-// What an instruction asks for.
+/// The number of bytes of an instruction.
+pub const INSTRUCTION_SIZE: usize = 32;
+
+/// What an instruction asks for. A variant's value is its kind byte, 1 to 7.
 #[derive(Clone, Copy, Debug, PartialEq, Eq)]
 pub enum Kind {
+    /// Credits an account with a quantity of an item of securities.
     Issue = 1,
+    /// Credits an account with an amount of a currency.
     PayIn,
+    /// Enters a trade with its parties and terms.
     Enter,
+    /// Blocks the seller's securities.
     Earmark,
+    /// Blocks the buyer's cash.
     Fund,
+    /// Delivers the securities against the cash.
     Settle,
+    /// Ends a trade that is not settled, and frees what it has blocked.
     Free,
 }
 
-// The kind byte.
+/// The kind byte.
 impl From<Kind> for u8 {
     ghost from_gives = { λ kind code. code ≡ code_of kind };
 
@@ -32,7 +47,11 @@ impl From<Kind> for u8 {
     }
 }
 
-// The kind that a kind byte means, if any does.
+/// The kind that a kind byte means.
+///
+/// # Errors
+///
+/// `UnknownKind` if the byte is not 1 to 7.
 impl TryFrom<u8> for Kind {
     type Error = Refusal;
 
@@ -52,22 +71,75 @@ impl TryFrom<u8> for Kind {
     }
 }
 
-// The fields as they come, whether or not the kind is known or uses them: the rules judge that, so the kind is its byte.
-// In an Enter `account` is the seller and `counterparty` the buyer.
+/// A field of an instruction other than its kind.
+#[derive(Clone, Copy, Debug, PartialEq, Eq)]
+pub enum Field {
+    /// The account that is credited, or the seller.
+    Account,
+    /// The buyer.
+    Counterparty,
+    /// An item of securities.
+    Item,
+    /// An item of cash.
+    Currency,
+    /// A trade's number.
+    Trade,
+    /// So much of the item.
+    Quantity,
+    /// So much of the currency.
+    Amount,
+}
+
+impl Field {
+    /// All fields, in the order of the bytes.
+    pub const ALL: [Field; 7] = [
+        Field::Account,
+        Field::Counterparty,
+        Field::Item,
+        Field::Currency,
+        Field::Trade,
+        Field::Quantity,
+        Field::Amount,
+    ];
+}
+
+impl Kind {
+    /// Whether an instruction of this kind uses the field. In any other field it has 0.
+    pub fn uses(self, field: Field) -> bool
+        ensures { result ≡ uses self field }
+    {
+        match self {
+            Kind::Issue => matches!(field, Field::Account | Field::Item | Field::Quantity),
+            Kind::PayIn => matches!(field, Field::Account | Field::Currency | Field::Amount),
+            Kind::Enter => true,
+            Kind::Earmark | Kind::Fund | Kind::Settle | Kind::Free => field == Field::Trade,
+        }
+    }
+}
+
+/// An instruction as it comes in. The rules judge whether its kind is known and its fields are in range.
 #[derive(Clone, Copy, Debug, Default, PartialEq, Eq)]
 pub struct Instruction {
+    /// The kind byte, which may mean no kind.
     pub kind: u8,
+    /// The account that is credited, or the seller.
     pub account: u16,
+    /// The buyer.
     pub counterparty: u16,
+    /// The number of an item of securities.
     pub item: u16,
+    /// The number of a currency.
     pub currency: u16,
+    /// The number of a trade.
     pub trade: u32,
+    /// So much of the item.
     pub quantity: u64,
+    /// So much of the currency.
     pub amount: u64,
 }
 
 impl Instruction {
-    // An instruction of the kind with 0 in each other field.
+    /// An instruction of the kind with 0 in each other field.
     pub fn of_kind(kind: Kind) -> Instruction
         ensures { result ≡ of_kind kind }
     {
@@ -77,7 +149,7 @@ impl Instruction {
         }
     }
 
-    // An instruction of the kind that names a trade, with 0 in each other field.
+    /// An instruction of the kind that names a trade, with 0 in each other field.
     pub fn on_trade(kind: Kind, trade: u32) -> Instruction
         ensures { result ≡ on_trade kind trade }
     {
@@ -87,8 +159,34 @@ impl Instruction {
         }
     }
 
-    // This way and back are methods, by names that say bytes, as of the library's numbers. The array shows the layout.
-    pub fn to_bytes(self) -> [u8; 32]
+    /// The number in a field.
+    pub fn value_of(&self, field: Field) -> u64
+        ensures { result ≡ value_of field self.now }
+    {
+        match field {
+            Field::Account => self.account.into(),
+            Field::Counterparty => self.counterparty.into(),
+            Field::Item => self.item.into(),
+            Field::Currency => self.currency.into(),
+            Field::Trade => self.trade.into(),
+            Field::Quantity => self.quantity,
+            Field::Amount => self.amount,
+        }
+    }
+
+    /// Whether some field that the kind does not use is not 0.
+    #[tactic(auto, using(crate::proofs::Strays::stray_or_zero))]
+    pub fn has_stray_field(&self, kind: Kind) -> bool
+        ensures value { result ≡ has_stray kind self.now }
+        ensures law { StrayLaw }
+    {
+        Field::ALL
+            .iter()
+            .any(|field| !kind.uses(*field) && self.value_of(*field) != 0)
+    }
+
+    /// The instruction's bytes: docs/LAYOUTS.md has the layout.
+    pub fn to_bytes(self) -> [u8; INSTRUCTION_SIZE]
         ensures value { result ≡ bytes_of self }
         ensures laid_out { LaidOut result self }
         ensures read_back { instruction_in result ≡ Ok self }
@@ -106,12 +204,16 @@ impl Instruction {
         ]
     }
 
-    // Any bytes: those of no instruction are malformed.
+    /// The instruction that the bytes are.
+    ///
+    /// # Errors
+    ///
+    /// `Malformed` if the bytes are not `INSTRUCTION_SIZE` many, or one that no field has is not 0.
     pub fn from_bytes(bytes: &[u8]) -> Result<Instruction, Refusal>
         ensures value { result ≡ instruction_in bytes.now }
         ensures exact { Reads bytes.now result }
     {
-        if bytes.len() != 32 {
+        if bytes.len() != INSTRUCTION_SIZE {
             return Err(Refusal::Malformed);
         }
         if bytes[1] != 0 || bytes[10] != 0 || bytes[11] != 0 {
@@ -119,19 +221,19 @@ impl Instruction {
         }
         Ok(Instruction {
             kind: bytes[0],
-            account: field(bytes, 2),
-            counterparty: field(bytes, 4),
-            item: field(bytes, 6),
-            currency: field(bytes, 8),
-            trade: field(bytes, 12),
-            quantity: field(bytes, 16),
-            amount: field(bytes, 24),
+            account: number_at(bytes, 2),
+            counterparty: number_at(bytes, 4),
+            item: number_at(bytes, 6),
+            currency: number_at(bytes, 8),
+            trade: number_at(bytes, 12),
+            quantity: number_at(bytes, 16),
+            amount: number_at(bytes, 24),
         })
     }
 }
 
-// The number in the N bytes from a place on.
-fn field<T: LittleEndian<N>, const N: usize>(b: &[u8], at: usize) -> T
+// The number in the N bytes from place `at` on.
+fn number_at<T: LittleEndian<N>, const N: usize>(b: &[u8], at: usize) -> T
     requires { at + N ≤ length b.now }
     ensures { T.value result ≡ number_at at N b.now }
 {
