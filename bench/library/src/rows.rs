@@ -132,7 +132,7 @@ impl fmt::Display for Answer {
 
 #[repr(C)]
 #[derive(Clone, Copy, Debug)]
-pub struct Trial {
+pub struct Timing {
     pub what: u8,
     pub rounds: u32,
     pub pairs: u32,
