@@ -6,7 +6,7 @@ use Rattle.little_endian.specs.Little.{le_bytes, bytes_from}
 use Rattle.little_endian.proofs.Widths.{le-bytes, part-back, part-whole}
 use Rattle.refusals.specs.declared.Refusal.TheVariants.{Malformed}
 use Rattle.instruction.specs.declared.Instruction.{Instruction}
-use Rattle.instruction.specs.Layout.{bytes_of, instruction_in, fields, unused_zero, IsInstruction, Lies, LaidOut, Reads, Fit}
+use Rattle.instruction.specs.Layout.{bytes_of, instruction_in, fields_in, unused_zero, IsInstruction, Lies, LaidOut, Reads, Fit}
 
 pub there : (i : Instruction) → Fit i → instruction_in (bytes_of i) ≡ Ok i
 there i f =
@@ -19,7 +19,7 @@ there i f =
     let m = le-bytes 8 i.amount f.amount in
     λ k. Ok (record { kind = i.kind; account = a k; counterparty = b k; item = t k; currency = u k; trade = n k; quantity = q k; amount = m k })
 
-laid-back : (bs : List ℕ) → ((i : ℕ) → get_or bs i 0 < 256) → IsInstruction bs → bytes_of (fields bs) ≡ bs
+laid-back : (bs : List ℕ) → ((i : ℕ) → get_or bs i 0 < 256) → IsInstruction bs → bytes_of (fields_in bs) ≡ bs
 laid-back bs h s =
     let z1 = sym s.one in
     let z10 = sym s.ten in
@@ -31,7 +31,7 @@ laid-back bs h s =
     let n = part-back 12 4 bs h in
     let y = part-back 16 8 bs h in
     let m = part-back 24 8 bs h in
-    let e : bytes_of (fields bs) ≡ bytes_from 0 32 bs = λ k. get_or bs 0 0 ∷ z1 k ∷ (a k ++ (b k ++ (t k ++ (u k ++ (z10 k ∷ z11 k ∷ (n k ++ (y k ++ m k))))))) in
+    let e : bytes_of (fields_in bs) ≡ bytes_from 0 32 bs = λ k. get_or bs 0 0 ∷ z1 k ∷ (a k ++ (b k ++ (t k ++ (u k ++ (z10 k ∷ z11 k ∷ (n k ++ (y k ++ m k))))))) in
     e ∙ sym (part-whole 32 bs s.long)
 
 is-instruction : (bs : List ℕ) → (eqb (length bs) 32 && unused_zero bs) ≡ true → IsInstruction bs
@@ -75,10 +75,10 @@ passes : (bs : List ℕ) → IsInstruction bs → (eqb (length bs) 32 && unused_
 passes bs s = rw (s.long, s.one, s.ten, s.eleven)
 
 reads-cases : (bs : List ℕ) → ((i : ℕ) → get_or bs i 0 < 256) → (t : Bool) → (eqb (length bs) 32 && unused_zero bs) ≡ t
-    → Reads bs (cond t (Ok (fields bs)) (Err Malformed))
+    → Reads bs (cond t (Ok (fields_in bs)) (Err Malformed))
 reads-cases bs h true e =
     let b = laid-back bs h (is-instruction bs e) in
-    (subst (λ c. LaidOut c (fields bs)) b (laid-out (fields bs)), b)
+    (subst (λ c. LaidOut c (fields_in bs)) b (laid-out (fields_in bs)), b)
 reads-cases bs h false e = (refl, λ s. let z : true ≡ false = sym (passes bs s) ∙ e in cc)
 
 pub reads : (bs : List ℕ) → ((i : ℕ) → get_or bs i 0 < 256) → Reads bs (instruction_in bs)

@@ -6,6 +6,9 @@ use Rattle.refusals.specs.Numbers.{numbered, number_of}
 use Rattle.instruction.specs.declared.Kind.{Kind}
 use Rattle.instruction.specs.declared.Instruction.{Instruction}
 use Rattle.instruction.specs.Kinds.{code_of}
+use Rattle.instruction.specs.declared.Field.{Field}
+use Rattle.instruction.specs.declared.Field.TheVariants.{Account, Counterparty, Item, Currency, Trade, Quantity, Amount}
+use Rattle.instruction.specs.Fields.{offset_of, width_of}
 
 -- an instruction of a kind that names a trade, with 0 in each other field
 abbrev pub on_trade : Kind → ℕ → Instruction
@@ -24,34 +27,41 @@ on_trade k t = record {
 abbrev pub of_kind : Kind → Instruction
 of_kind k = on_trade k 0
 
--- byte 0 the kind, byte 1 zero, then the account, the counterparty, the item and the currency in two
--- bytes each, bytes 10 and 11 zero, the trade in four bytes, the quantity and the amount in eight each
+-- byte 0 the kind, byte 1 zero, then the account, the counterparty, the item and the currency, bytes 10
+-- and 11 zero, then the trade, the quantity and the amount
 abbrev pub bytes_of : Instruction → List ℕ
 bytes_of i =
-    i.kind ∷ 0 ∷ (le_bytes 2 i.account ++ (le_bytes 2 i.counterparty ++ (le_bytes 2 i.item
-    ++ (le_bytes 2 i.currency ++ (0 ∷ 0 ∷ (le_bytes 4 i.trade ++ (le_bytes 8 i.quantity ++ le_bytes 8 i.amount)))))))
+    i.kind ∷ 0 ∷ (le_bytes (width_of Account) i.account
+    ++ (le_bytes (width_of Counterparty) i.counterparty ++ (le_bytes (width_of Item) i.item
+    ++ (le_bytes (width_of Currency) i.currency ++ (0 ∷ 0 ∷ (le_bytes (width_of Trade) i.trade
+    ++ (le_bytes (width_of Quantity) i.quantity ++ le_bytes (width_of Amount) i.amount)))))))
 
 -- the number in the w bytes from place `at` on
 abbrev pub number_at : ℕ → ℕ → List ℕ → ℕ
 number_at at w bs = le_number (bytes_from at w bs)
 
-abbrev pub fields : List ℕ → Instruction
-fields bs = record {
+-- the number in the bytes of a field
+abbrev pub field_in : Field → List ℕ → ℕ
+field_in f bs = number_at (offset_of f) (width_of f) bs
+
+-- the instruction that the bytes hold
+abbrev pub fields_in : List ℕ → Instruction
+fields_in bs = record {
   kind = slice_index bs 0;
-  account = number_at 2 2 bs;
-  counterparty = number_at 4 2 bs;
-  item = number_at 6 2 bs;
-  currency = number_at 8 2 bs;
-  trade = number_at 12 4 bs;
-  quantity = number_at 16 8 bs;
-  amount = number_at 24 8 bs;
+  account = field_in Account bs;
+  counterparty = field_in Counterparty bs;
+  item = field_in Item bs;
+  currency = field_in Currency bs;
+  trade = field_in Trade bs;
+  quantity = field_in Quantity bs;
+  amount = field_in Amount bs;
 }
 
 abbrev pub unused_zero : List ℕ → Bool
 unused_zero bs = slice_index bs 1 == 0 && (slice_index bs 10 == 0 && slice_index bs 11 == 0)
 
 abbrev pub instruction_in : List ℕ → Result Instruction Refusal
-instruction_in bs = cond (length bs == 32 && unused_zero bs) (Ok (fields bs)) (Err (numbered 46))
+instruction_in bs = cond (length bs == 32 && unused_zero bs) (Ok (fields_in bs)) (Err (numbered 46))
 
 -- the strings that are instructions: 32 bytes, those at 1, 10 and 11 zero
 pub record IsInstruction (bs : List ℕ) : Type 0 where

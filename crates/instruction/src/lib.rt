@@ -1,8 +1,9 @@
 // An instruction to the depository, and its 32 bytes.
 #![tactic(auto)]
 
-ghost use Rattle.std.specs.Prelude.{◌≡◌, ◌+◌, ◌≤◌, length, Ok};
+ghost use Rattle.std.specs.Prelude.{◌≡◌, ◌+◌, ◌≤◌, ◌↔◌, false, length, Ok};
 ghost use Rattle.instruction.specs.Kinds.{code_of, Decodes, KindsAndCodes};
+ghost use Rattle.instruction.specs.Fields.{width_of, most_of, value_of, uses, has_stray, StrayLaw};
 ghost use Rattle.instruction.specs.Layout.{of_kind, on_trade, bytes_of, instruction_in, number_at, LaidOut, Reads};
 
 use little_endian::LittleEndian;
@@ -52,6 +53,45 @@ impl TryFrom<u8> for Kind {
     }
 }
 
+/// A field of an instruction other than its kind.
+#[derive(Clone, Copy, Debug, PartialEq, Eq)]
+pub enum Field {
+    Account,
+    Counterparty,
+    Item,
+    Currency,
+    Trade,
+    Quantity,
+    Amount,
+}
+
+impl Field {
+    /// All fields, in the order of the bytes.
+    pub const ALL: [Field; 7] = [
+        Field::Account,
+        Field::Counterparty,
+        Field::Item,
+        Field::Currency,
+        Field::Trade,
+        Field::Quantity,
+        Field::Amount,
+    ];
+}
+
+impl Kind {
+    /// Whether an instruction of this kind uses the field. In any other field it has 0.
+    pub fn uses(self, field: Field) -> bool
+        ensures { result ≡ uses self field }
+    {
+        match self {
+            Kind::Issue => matches!(field, Field::Account | Field::Item | Field::Quantity),
+            Kind::PayIn => matches!(field, Field::Account | Field::Currency | Field::Amount),
+            Kind::Enter => true,
+            Kind::Earmark | Kind::Fund | Kind::Settle | Kind::Free => field == Field::Trade,
+        }
+    }
+}
+
 // The fields as they come, whether or not the kind is known or uses them: the rules judge that, so the kind is its byte.
 // In an Enter `account` is the seller and `counterparty` the buyer.
 #[derive(Clone, Copy, Debug, Default, PartialEq, Eq)]
@@ -87,6 +127,32 @@ impl Instruction {
         }
     }
 
+    /// The number in a field.
+    pub fn value_of(&self, field: Field) -> u64
+        ensures { result ≡ value_of field self.now }
+    {
+        match field {
+            Field::Account => self.account.into(),
+            Field::Counterparty => self.counterparty.into(),
+            Field::Item => self.item.into(),
+            Field::Currency => self.currency.into(),
+            Field::Trade => self.trade.into(),
+            Field::Quantity => self.quantity,
+            Field::Amount => self.amount,
+        }
+    }
+
+    /// Whether some field that the kind does not use is not 0.
+    #[tactic(auto, using(crate::proofs::Strays::stray_or_zero))]
+    pub fn has_stray_field(&self, kind: Kind) -> bool
+        ensures value { result ≡ has_stray kind self.now }
+        ensures law { StrayLaw }
+    {
+        Field::ALL
+            .iter()
+            .any(|field| !kind.uses(*field) && self.value_of(*field) != 0)
+    }
+
     // This way and back are methods, by names that say bytes, as of the library's numbers. The array shows the layout.
     pub fn to_bytes(self) -> [u8; 32]
         ensures value { result ≡ bytes_of self }
@@ -119,19 +185,19 @@ impl Instruction {
         }
         Ok(Instruction {
             kind: bytes[0],
-            account: field(bytes, 2),
-            counterparty: field(bytes, 4),
-            item: field(bytes, 6),
-            currency: field(bytes, 8),
-            trade: field(bytes, 12),
-            quantity: field(bytes, 16),
-            amount: field(bytes, 24),
+            account: number_at(bytes, 2),
+            counterparty: number_at(bytes, 4),
+            item: number_at(bytes, 6),
+            currency: number_at(bytes, 8),
+            trade: number_at(bytes, 12),
+            quantity: number_at(bytes, 16),
+            amount: number_at(bytes, 24),
         })
     }
 }
 
 // The number in the N bytes from a place on.
-fn field<T: LittleEndian<N>, const N: usize>(b: &[u8], at: usize) -> T
+fn number_at<T: LittleEndian<N>, const N: usize>(b: &[u8], at: usize) -> T
     requires { at + N ≤ length b.now }
     ensures { T.value result ≡ number_at at N b.now }
 {

@@ -1,7 +1,7 @@
 use Rattle.std.proofs.Common.{◌≡◌, ◌+◌, ◌-◌, take, drop, ap, ◌∙◌, arith}
 use Rattle.little_endian.specs.Little.{le_number}
 use Rattle.little_endian.proofs.Widths.{part-slice}
-use Rattle.instruction.proofs.field.Goals as goal
+use Rattle.instruction.proofs.number_at.Goals as goal
 
 pub returns : goal.returns
 returns g c =
