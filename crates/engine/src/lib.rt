@@ -10,4 +10,4 @@ pub mod slip;
 mod writing;
 
 pub use engine::{Engine, Mode};
-pub use slip::{Contents, Slip, Verdict};
+pub use slip::{Contents, Slip, Verdict, presented_number};

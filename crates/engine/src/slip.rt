@@ -1,9 +1,9 @@
 // The closing slip: plain numbers, owed until it is presented or filed.
 ghost use Rattle.std.specs.Prelude.{◌≡◌, true, is_some};
-ghost use Rattle.engine.specs.ClosingSlip.{contents, IsOwed, slip_verdict, HasVerdict, number_of, verdict_place, PresentedApart, is_last};
+ghost use Rattle.engine.specs.ClosingSlip.{contents, IsOwed, slip_verdict, HasVerdict, number_of, verdict_place, presented_number, PresentedApart, is_last};
 
 use instruction::Instruction;
-use refusals::Place;
+use refusals::{Place, Refusal};
 
 // What a slip tells: the number of standing entries, and the instruction in hand.
 #[derive(Clone, Copy, Debug, PartialEq, Eq)]
@@ -41,6 +41,17 @@ impl Verdict {
         match self {
             Verdict::Same | Verdict::Stands | Verdict::Unknown | Verdict::Differs => Place::Engine,
         }
+    }
+}
+
+/// The number of what a slip that was presented is answered: the verdict's, or the refusal's. No two
+/// answers share one.
+pub fn presented_number(presented: Result<Verdict, Refusal>) -> u8
+    ensures { result ≡ presented_number presented }
+{
+    match presented {
+        Ok(verdict) => verdict.number(),
+        Err(refusal) => refusal.number(),
     }
 }
 
