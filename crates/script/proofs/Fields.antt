@@ -4,7 +4,7 @@ use Rattle.std.specs.List.{prefix_len, AllByRecursion}
 use Rattle.std.proofs.lemmas.List.{take-append-drop, take_at, drop_at, nil_from_length}
 use Rattle.std.proofs.lemmas.Fmt.{digits_decimal, decimal_nonempty}
 use Rattle.script.specs.Words.{is_digit, is_letter, Word, letter, digits, space, other, end, first_word, after_word}
-use Rattle.script.specs.Requests.{number_in, field_in, field_of, after_field, and_then, fields_of}
+use Rattle.script.specs.Requests.{number_in, field_in, field_of, after_field, and_then, numbers_in}
 use Rattle.script.specs.LineLaw.{numbers_text}
 use Rattle.script.proofs.Num.{AllDigits, own, sound, complete}
 
@@ -77,24 +77,24 @@ pub then-some : {X Y : Type 0} (o : Option X) (f : X → Option Y) (y : Y) → a
 then-some (Some x) f y e = (x, refl, e)
 then-some None f y e = absurd cc
 
-pub fields-sound : (ms bs ns : List ℕ) → AllByRecursion (λ m. m < 2 ^ 64) ms → fields_of ms bs ≡ Some ns → (bs ≡ numbers_text ns) × Within ns ms
+pub fields-sound : (ms bs ns : List ℕ) → AllByRecursion (λ m. m < 2 ^ 64) ms → numbers_in ms bs ≡ Some ns → (bs ≡ numbers_text ns) × Within ns ms
 fields-sound [] bs ns a e = search (rules, nil_from_length)
 fields-sound (m ∷ ms) bs ns a e =
-    let p = then-some (field_of m bs) (λ n. and_then (fields_of ms (after_field bs)) (λ ns. Some (n ∷ ns))) ns e in
-    let q = then-some (fields_of ms (after_field bs)) (λ more. Some (p.0 ∷ more)) ns p.2 in
+    let p = then-some (field_of m bs) (λ n. and_then (numbers_in ms (after_field bs)) (λ ns. Some (n ∷ ns))) ns e in
+    let q = then-some (numbers_in ms (after_field bs)) (λ more. Some (p.0 ∷ more)) ns p.2 in
     let f = field-sound m p.0 bs a.0 p.1 in
     let r = fields-sound ms (after_field bs) q.0 a.1 q.1 in
     let z : p.0 ∷ q.0 ≡ ns = cc in
     subst (λ l. (bs ≡ numbers_text l) × Within l (m ∷ ms)) z (f.0 ∙ ap (λ x. 32 ∷ (decimal p.0 ++ x)) r.0, (f.1, r.1))
 
-pub fields-complete : (ms ns : List ℕ) → AllByRecursion (λ m. m < 2 ^ 64) ms → Within ns ms → fields_of ms (numbers_text ns) ≡ Some ns
+pub fields-complete : (ms ns : List ℕ) → AllByRecursion (λ m. m < 2 ^ 64) ms → Within ns ms → numbers_in ms (numbers_text ns) ≡ Some ns
 fields-complete [] [] a w = refl
 fields-complete [] (n ∷ ns) a w = absurd w
 fields-complete (m ∷ ms) [] a w = absurd w
 fields-complete (m ∷ ms) (n ∷ ns) a w =
     let f = field-complete m n (numbers_text ns) a.0 w.0 (stops ns) in
-    ap (λ o. and_then o (λ x. and_then (fields_of ms (after_field (numbers_text (n ∷ ns)))) (λ xs. Some (x ∷ xs)))) f.0
-    ∙ ap (λ b. and_then (fields_of ms b) (λ xs. Some (n ∷ xs))) f.1
+    ap (λ o. and_then o (λ x. and_then (numbers_in ms (after_field (numbers_text (n ∷ ns)))) (λ xs. Some (x ∷ xs)))) f.0
+    ∙ ap (λ b. and_then (numbers_in ms b) (λ xs. Some (n ∷ xs))) f.1
     ∙ ap (λ o. and_then o (λ xs. Some (n ∷ xs))) (fields-complete ms ns a.1 w.1)
 
 pub within-at : (ns ms : List ℕ) (i : ℕ) → Within ns ms → get_or ns i 0 ≤ get_or ms i 0

@@ -1,18 +1,19 @@
 -- A line is read as the request that it is the text of, by the law over lines.
-use Rattle.std.proofs.Common.{◌≡◌, ℕ, suc, ◌^◌, ◌<◌, Bool, true, false, cond, eqb, List, [], ◌∷◌, get_or, Some, None, Option, sym, refl, ap, ◌∙◌, subst, rules}
+use Rattle.std.proofs.Common.{◌≡◌, ℕ, suc, ◌^◌, ◌<◌, Bool, true, false, cond, eqb, List, [], ◌∷◌, map, get_or, Some, None, Option, sym, refl, ap, ◌∙◌, subst, rules}
 use Rattle.std.specs.List.{AllByRecursion}
 use Rattle.std.specs.Option.{ok_or}
 use Rattle.std.proofs.lemmas.Bool.{eqb-true}
 use Rattle.refusals.specs.Numbers.{numbered}
 use Rattle.instruction.specs.declared.Kind.{Kind}
 use Rattle.instruction.specs.declared.Instruction.{Instruction}
+use Rattle.instruction.specs.Fields.{most_of, fields_of, instruction_with}
 use Rattle.instruction.specs.Layout.{Fit}
 use Rattle.script.specs.declared.Position.{Position}
 use Rattle.script.specs.declared.Request.{Request}
 use Rattle.script.specs.declared.Request.TheVariants.{Instruct, Register, Cash, Cut}
 use Rattle.script.specs.Words.{is_letter, Word, letter, first_word, after_word}
 use Rattle.script.specs.Numerals.{largest_in}
-use Rattle.script.specs.Requests.{and_then, fields_of, largest_values, instruction_with, instruction_of, position_of, cut_of, kind_for, request_for, request_after, request_of, request_in}
+use Rattle.script.specs.Requests.{and_then, numbers_in, instruction_of, position_of, cut_of, kind_for, request_for, request_after, request_of, request_in}
 use Rattle.script.specs.LineLaw.{numbers_text, letter_of, byte_of, written_fields, omitted_fields, IsInstructionText, IsQuestionText, IsTextOf, ReadsLine}
 use Rattle.script.proofs.Fields.{Seen, seen, first-letter, Within, fields-sound, fields-complete, within-at, then-some}
 use Rattle.script.proofs.Cuts.{cut-sound, cut-complete}
@@ -33,14 +34,17 @@ picked-own (m ∷ ms) [] w = absurd w
 picked-own (m ∷ ms) (n ∷ ns) w = ap (λ l. n ∷ l) (picked-later 0 n ms ns ∙ picked-own ms ns w.1)
 
 -- the limits of each kind, and its instructions filled with numbers
+abbrev limits : Kind → List ℕ
+limits k = map most_of (fields_of k)
+
 narrow-pair : AllByRecursion (λ m. m < 2 ^ 64) (largest_in 2 ∷ largest_in 2 ∷ [])
 narrow-pair = search rules
 
-narrow : (k : Kind) → AllByRecursion (λ m. m < 2 ^ 64) (largest_values k)
+narrow : (k : Kind) → AllByRecursion (λ m. m < 2 ^ 64) (limits k)
 narrow k = search rules
 
-used-filled : (k : Kind) (ns : List ℕ) → Within ns (largest_values k) → written_fields k (instruction_with k ns) ≡ ns
-used-filled k ns w = search (rules, picked-own (largest_values k) ns w)
+used-filled : (k : Kind) (ns : List ℕ) → Within ns (limits k) → written_fields k (instruction_with k ns) ≡ ns
+used-filled k ns w = search (rules, picked-own (limits k) ns w)
 
 filled-code : (k : Kind) (ns : List ℕ) → (instruction_with k ns).kind ≡ byte_of k
 filled-code k ns = search rules
@@ -54,14 +58,14 @@ filled-zeros k ns = search rules
 filled-own : (k : Kind) (i : Instruction) → i.kind ≡ byte_of k → Zeros (omitted_fields k i) → i ≡ instruction_with k (written_fields k i)
 filled-own k i e z = search rules
 
-fits : (k : Kind) (i : Instruction) → i.kind ≡ byte_of k → Zeros (omitted_fields k i) → Within (written_fields k i) (largest_values k) → Fit i
+fits : (k : Kind) (i : Instruction) → i.kind ≡ byte_of k → Zeros (omitted_fields k i) → Within (written_fields k i) (limits k) → Fit i
 fits k i e z w = search rules
 
-used-within : (k : Kind) (i : Instruction) → Fit i → Within (written_fields k i) (largest_values k)
+used-within : (k : Kind) (i : Instruction) → Fit i → Within (written_fields k i) (limits k)
 used-within k i f = search rules
 
 -- what is read has the line as its text
-filled-good : (k : Kind) (ns : List ℕ) → Within ns (largest_values k) → IsInstructionText (instruction_with k ns) (letter_of k ∷ numbers_text ns)
+filled-good : (k : Kind) (ns : List ℕ) → Within ns (limits k) → IsInstructionText (instruction_with k ns) (letter_of k ∷ numbers_text ns)
 filled-good k ns w =
     let byte = filled-code k ns in
     let zeros = filled-zeros k ns in
@@ -70,7 +74,7 @@ filled-good k ns w =
       kind = k;
       byte = byte;
       zeros = zeros;
-      fit = fits k (instruction_with k ns) byte zeros (subst (λ l. Within l (largest_values k)) (sym own) w);
+      fit = fits k (instruction_with k ns) byte zeros (subst (λ l. Within l (limits k)) (sym own) w);
       text = ap (λ l. letter_of k ∷ numbers_text l) (sym own);
     }
 
@@ -113,7 +117,7 @@ for-good c bs q false true t o x y w z e =
 for-good c bs q false false true o x y w z e = subst (λ d. IsTextOf q (d ∷ bs)) (sym (eqb-true c 67 w)) (cut-good bs q e)
 for-good c bs q false false false (Some k) x y w z e =
     let own : c ≡ letter_of k = search rules in
-    subst (λ d. IsTextOf q (d ∷ bs)) (sym own) (made (letter_of k) (largest_values k) bs (instruction_with k) (λ i. Instruct i) q _ (λ ns. fields-sound _ bs ns (narrow k)) (filled-good k) e)
+    subst (λ d. IsTextOf q (d ∷ bs)) (sym own) (made (letter_of k) (limits k) bs (instruction_with k) (λ i. Instruct i) q _ (λ ns. fields-sound _ bs ns (narrow k)) (filled-good k) e)
 for-good c bs q false false false None x y w z e = absurd cc
 
 after-good : (bs : List ℕ) (q : Request) (w : Word) → Seen bs w → request_after w (after_word bs) ≡ Some q → IsTextOf q bs
@@ -134,10 +138,10 @@ kind-complete i bs w =
     ap request_of w.text
     ∙ at-letter (letter_of k) (numbers_text own) (search rules)
     ∙ for-kind k (numbers_text own)
-    ∙ ap (λ o. and_then (and_then o (λ ns. Some (instruction_with k ns))) (λ i. Some (Instruct i))) (fields-complete (largest_values k) own (narrow k) (used-within k i w.fit))
+    ∙ ap (λ o. and_then (and_then o (λ ns. Some (instruction_with k ns))) (λ i. Some (Instruct i))) (fields-complete (limits k) own (narrow k) (used-within k i w.fit))
     ∙ ap (λ x. Some (Instruct x)) (sym (filled-own k i w.byte w.zeros))
 
-pair-complete : (p : Position) → p.account < 2 ^ 16 → p.item < 2 ^ 16 → fields_of (largest_in 2 ∷ largest_in 2 ∷ []) (numbers_text (p.account ∷ p.item ∷ [])) ≡ Some (p.account ∷ p.item ∷ [])
+pair-complete : (p : Position) → p.account < 2 ^ 16 → p.item < 2 ^ 16 → numbers_in (largest_in 2 ∷ largest_in 2 ∷ []) (numbers_text (p.account ∷ p.item ∷ [])) ≡ Some (p.account ∷ p.item ∷ [])
 pair-complete p a i = fields-complete (largest_in 2 ∷ largest_in 2 ∷ []) (p.account ∷ p.item ∷ []) narrow-pair (search rules)
 
 request-complete : (q : Request) (bs : List ℕ) → IsTextOf q bs → request_of bs ≡ Some q

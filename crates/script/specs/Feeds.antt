@@ -35,8 +35,8 @@ with_last_feed [] = []
 with_last_feed (c ∷ []) = if c == 10 then c ∷ [] else c ∷ 10 ∷ []
 with_last_feed (c ∷ d ∷ cs) = c ∷ with_last_feed (d ∷ cs)
 
--- No line holds a line feed, and the lines with a line feed after each are the text, but for the line
--- feed that the last line may lack.
+-- No line holds a line feed, and the lines with a line feed after each are the text, but for the
+-- line feed that the last line may lack.
 pub record Splits (bs : List ℕ) (ls : List (List ℕ)) : Type 0 where
   pub unbroken : AllByRecursion (AllByRecursion (λ c. c ≢ 10)) ls
   pub whole : flat_map (λ l. l ++ (10 ∷ [])) ls ≡ with_last_feed bs

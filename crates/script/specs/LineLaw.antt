@@ -1,4 +1,5 @@
--- The law over lines: the one text of each request, and what reading a line answers. It shares no word with the reader's rule.
+-- The law over lines: the one text of each request, and what reading a line answers. It shares no
+-- word with the reader's rule.
 use Rattle.std.specs.Prelude.{◌≡◌, ℕ, ◌^◌, ◌<◌, ◌≤◌, List, [], ◌∷◌, length, Ok, Err, decimal, Result}
 use Rattle.std.specs.List.{flat_map, AllByRecursion}
 use Rattle.refusals.specs.declared.Refusal.{Refusal}
@@ -89,7 +90,8 @@ IsTextOf (Register p) line = IsQuestionText 81 p line
 IsTextOf (Cash p) line = IsQuestionText 75 p line
 IsTextOf (Cut x) line = IsCutText x line
 
--- what reading a line answers: the request that the line is the text of, or 71 where it is the text of none
+-- what reading a line answers: the request that the line is the text of, or 71 where it is the text
+-- of none
 abbrev pub ReadsLine : List ℕ → Result Request Refusal → Type 0
 ReadsLine line (Ok q) = IsTextOf q line
 ReadsLine line (Err r) = (number_of r ≡ 71) × ((q : Request) → IsTextOf q line → ⊥)

@@ -1,5 +1,5 @@
 -- What a line is read as: the reader's rule. What it has to do is said apart, in LineLaw.
-use Rattle.std.specs.Prelude.{ℕ, zero, suc, List, [], ◌∷◌, length, Some, None, Option, Result, if◌then◌else◌, ◌==◌, slice_index}
+use Rattle.std.specs.Prelude.{ℕ, zero, suc, Bool, List, [], ◌∷◌, map, length, Some, None, Option, Result, if◌then◌else◌, ◌==◌, slice_index}
 use Rattle.std.specs.Bool.{then_some}
 use Rattle.std.specs.Option.{ok_or}
 use Rattle.refusals.specs.declared.Refusal.{Refusal}
@@ -7,7 +7,7 @@ use Rattle.refusals.specs.Numbers.{numbered}
 use Rattle.instruction.specs.declared.Kind.{Kind}
 use Rattle.instruction.specs.declared.Kind.TheVariants.{Issue, PayIn, Enter, Earmark, Fund, Settle, Free}
 use Rattle.instruction.specs.declared.Instruction.{Instruction}
-use Rattle.instruction.specs.Layout.{on_trade}
+use Rattle.instruction.specs.Fields.{most_of, fields_of, instruction_with}
 use Rattle.script.specs.declared.TheConstants.{MOST_REMAINS}
 use Rattle.script.specs.declared.Position.{Position}
 use Rattle.script.specs.declared.Cut.{Cut as PowerCut}
@@ -47,48 +47,28 @@ unfoldable pub after_field : List ℕ → List ℕ
 after_field bs = after_word (after_word bs)
 
 -- the numbers of fields, each at most what is given for it, and then the end of the line
-abbrev pub fields_of : List ℕ → List ℕ → Option (List ℕ)
-fields_of [] bs = at_line_end bs []
-fields_of (m ∷ ms) bs =
-    and_then (field_of m bs) (λ n. and_then (fields_of ms (after_field bs)) (λ ns. Some (n ∷ ns)))
+abbrev pub numbers_in : List ℕ → List ℕ → Option (List ℕ)
+numbers_in [] bs = at_line_end bs []
+numbers_in (m ∷ ms) bs =
+    and_then (field_of m bs) (λ n. and_then (numbers_in ms (after_field bs)) (λ ns. Some (n ∷ ns)))
 
--- the largest numbers of the fields of a kind, in their order
-abbrev pub largest_values : Kind → List ℕ
-largest_values Issue = largest_in 2 ∷ largest_in 2 ∷ largest_in 8 ∷ []
-largest_values PayIn = largest_in 2 ∷ largest_in 2 ∷ largest_in 8 ∷ []
-largest_values Enter = largest_in 2 ∷ largest_in 2 ∷ largest_in 2 ∷ largest_in 2 ∷ largest_in 4 ∷ largest_in 8 ∷ largest_in 8 ∷ []
-largest_values Earmark = largest_in 4 ∷ []
-largest_values Fund = largest_in 4 ∷ []
-largest_values Settle = largest_in 4 ∷ []
-largest_values Free = largest_in 4 ∷ []
-
--- the instruction of a kind that has these numbers in the fields that the kind uses, and 0 in the others
-abbrev pub instruction_with : Kind → List ℕ → Instruction
-instruction_with Issue ns = record { kind = 1; account = slice_index ns 0; counterparty = 0; item = slice_index ns 1; currency = 0; trade = 0; quantity = slice_index ns 2; amount = 0 }
-instruction_with PayIn ns = record { kind = 2; account = slice_index ns 0; counterparty = 0; item = 0; currency = slice_index ns 1; trade = 0; quantity = 0; amount = slice_index ns 2 }
-instruction_with Enter ns = record {
-  kind = 3;
-  account = slice_index ns 0;
-  counterparty = slice_index ns 1;
-  item = slice_index ns 2;
-  currency = slice_index ns 3;
-  trade = slice_index ns 4;
-  quantity = slice_index ns 5;
-  amount = slice_index ns 6;
-}
-instruction_with Earmark ns = on_trade Earmark (slice_index ns 0)
-instruction_with Fund ns = on_trade Fund (slice_index ns 0)
-instruction_with Settle ns = on_trade Settle (slice_index ns 0)
-instruction_with Free ns = on_trade Free (slice_index ns 0)
-
+-- the fields that a kind uses
 abbrev pub instruction_of : Kind → List ℕ → Option Instruction
 instruction_of k bs =
-    and_then (fields_of (largest_values k) bs) (λ ns. Some (instruction_with k ns))
+    and_then (numbers_in (map most_of (fields_of k)) bs) (λ ns. Some (instruction_with k ns))
+
+-- one field, if it is used: its number, or 0
+abbrev pub number_if : Bool → ℕ → List ℕ → Option ℕ
+number_if used most bs = if used then field_of most bs else Some 0
+
+-- and what follows it
+abbrev pub after_if : Bool → List ℕ → List ℕ
+after_if used bs = if used then after_field bs else bs
 
 -- an account, and an item of the register or a currency of cash
 abbrev pub position_of : List ℕ → Option Position
 position_of bs =
-    and_then (fields_of (largest_in 2 ∷ largest_in 2 ∷ []) bs)
+    and_then (numbers_in (largest_in 2 ∷ largest_in 2 ∷ []) bs)
     (λ ns. Some (record { account = slice_index ns 0; item = slice_index ns 1 }))
 
 -- up to so many remains, and then the end of the line

@@ -25,7 +25,8 @@ word_of Space = space
 word_of Other = other
 word_of End = end
 
--- the first token of a text: a capital letter, a longest run of digits, a space (32), or any other byte
+-- the first token of a text: a capital letter, a longest run of digits, a space (32), or any other
+-- byte
 abbrev pub first_word : List ℕ → Word
 first_word bs =
     if length bs == 0 then end

@@ -1,8 +1,10 @@
-//! The reader of examination scripts: the lines of a script, the tokens of a line, and the request that a line makes.
+//! The reader of examination scripts: the lines of a script, the tokens of a line, and the request
+//! that a line makes.
 //!
-//! [`read_line`] promises (clause `exact`) the request that the line is the text of, or a refusal where it is the text
-//! of none. [`Lines::next_line`] promises (clause `whole`) that the lines, each with its line feed, are the script. The
-//! kinds of instructions and the fields that each kind uses are those of `instruction`.
+//! [`read_line`] promises (clause `exact`) the request that the line is the text of, or a refusal
+//! where it is the text of none. [`Lines::next_line`] promises (clause `whole`) that the lines,
+//! each with its line feed, are the script. The kinds of instructions and the fields that each kind
+//! uses are those of `instruction`.
 #![tactic(auto)]
 
 ghost use Rattle.std.specs.Prelude.{◌≡◌, ◌^◌, ◌<◌, ◌≤◌, ℕ, Result, true, [], ◌∷◌, length, take, drop, is_some, IfSome, Some, None, MatchOption, ◌==◌, nat_le};
@@ -16,12 +18,12 @@ ghost use Rattle.std.specs.declared.num.TryFromIntError.{TryFromIntError};
 ghost use Rattle.script.specs.Words.{is_digit, word_of, first_word, word_length};
 ghost use Rattle.script.specs.Numerals.{largest_in, numeral, ReadsNumber};
 ghost use Rattle.script.specs.Feeds.{in_line, first_line, after_line, lines_of, lines_left, Splits};
-ghost use Rattle.script.specs.Requests.{field_of, after_field, and_then, at_line_end, instruction_of, position_of, remains_in, cut_of, kind_for, request_of, request_in};
+ghost use Rattle.script.specs.Requests.{field_of, after_field, and_then, at_line_end, number_if, after_if, instruction_of, position_of, remains_in, cut_of, kind_for, request_of, request_in};
 ghost use Rattle.script.specs.LineLaw.{ReadsLine};
 
 mod remains;
 
-use instruction::{Instruction, Kind};
+use instruction::{Field, Instruction, Kind};
 use refusals::Refusal;
 pub use remains::Remains;
 use std::num::TryFromIntError;
@@ -135,7 +137,8 @@ impl<'a> Tokens<'a> {
         token
     }
 
-    // Takes a space and a number that fits the type. After a `None` the line is refused, so no clause says what is left.
+    // Takes a space and a number that fits the type. After a `None` the line is refused, so no
+    // clause says what is left.
     fn field<T: Width>(&mut self) -> Option<T>
         ensures value { option_map T.number result ≡ field_of T.largest self.old.rest.now }
         ensures left { is_some result ≡ true → self.new.rest.now ≡ after_field self.old.rest.now }
@@ -148,6 +151,18 @@ impl<'a> Tokens<'a> {
         };
         T::try_from(number(digits, u64::MAX)?).ok()
     }
+
+    // Takes a field if it is used, and gives 0 if not.
+    fn field_if<T: Width>(&mut self, used: bool) -> Option<T>
+        ensures value { option_map T.number result ≡ number_if used T.largest self.old.rest.now }
+        ensures left { is_some result ≡ true → self.new.rest.now ≡ after_if used self.old.rest.now }
+    {
+        if used {
+            self.field()
+        } else {
+            T::try_from(0).ok()
+        }
+    }
 }
 
 // How many digits a text begins with.
@@ -158,7 +173,8 @@ fn digit_count(s: &[u8]) -> usize
     s.iter().take_while(|b| b.is_ascii_digit()).count()
 }
 
-/// The decimal number of at most `most` that the text writes, with no leading zero; `None` where it writes none.
+/// The decimal number of at most `most` that the text writes, with no leading zero; `None` where it
+/// writes none.
 pub fn number(digits: &[u8], most: u64) -> Option<u64>
     ensures value { result ≡ numeral most digits.now }
     ensures bound { IfSome result (λ n. n ≤ most) }
@@ -191,12 +207,14 @@ impl<'a> Lines<'a> {
         Lines { rest: script }
     }
 
-    /// Takes the next line, without its line feed: what `next` gives, under clauses that speak of the bytes.
+    /// Takes the next line, without its line feed: what `next` gives, under clauses that speak of
+    /// the bytes.
     pub fn next_line(&mut self) -> Option<&'a [u8]>
         ensures line { MatchOption result (self.old.rest.now ≡ [])
             (λ l. (0 < length self.old.rest.now) × (l.now ≡ first_line self.old.rest.now)) }
         ensures left { self.new.rest.now ≡ after_line self.old.rest.now }
-        ensures shorter { is_some result ≡ true → length self.new.rest.now < length self.old.rest.now }
+        ensures shorter { is_some result ≡ true
+            → length self.new.rest.now < length self.old.rest.now }
         ensures lines { MatchOption result (lines_of self.old.rest.now ≡ [])
             (λ l. lines_of self.old.rest.now ≡ l.now ∷ lines_of self.new.rest.now) }
         ensures whole { Splits self.old.rest.now (lines_of self.old.rest.now) }
@@ -265,7 +283,8 @@ pub struct Cut {
 ///
 /// # Errors
 ///
-/// `UnlistedLine` (71) where the line is in none of the listed forms, or a number is too large for its field.
+/// `UnlistedLine` (71) where the line is in none of the listed forms, or a number is too large for
+/// its field.
 pub fn read_line(line: &[u8]) -> Result<Request, Refusal>
     ensures value { result ≡ request_in line.now }
     ensures exact { ReadsLine line.now result }
@@ -305,39 +324,22 @@ fn kind_of(letter: char) -> Option<Kind>
     }
 }
 
-// Reads the fields that the kind uses. That the line ends after them is left to the caller, here and below.
+// Reads the fields that the kind uses. That the line ends after them is left to the caller, here
+// and below.
 fn read_instruction(kind: Kind, tokens: &mut Tokens) -> Option<Instruction>
-    ensures { instruction_of kind tokens.old.rest.now ≡ and_then result (at_line_end tokens.new.rest.now) }
+    ensures { instruction_of kind tokens.old.rest.now
+        ≡ and_then result (at_line_end tokens.new.rest.now) }
 {
-    let instruction = match kind {
-        Kind::Issue => Instruction {
-            account: tokens.field()?,
-            item: tokens.field()?,
-            quantity: tokens.field()?,
-            ..Instruction::of_kind(kind)
-        },
-        Kind::PayIn => Instruction {
-            account: tokens.field()?,
-            currency: tokens.field()?,
-            amount: tokens.field()?,
-            ..Instruction::of_kind(kind)
-        },
-        Kind::Enter => Instruction {
-            account: tokens.field()?,
-            counterparty: tokens.field()?,
-            item: tokens.field()?,
-            currency: tokens.field()?,
-            trade: tokens.field()?,
-            quantity: tokens.field()?,
-            amount: tokens.field()?,
-            ..Instruction::of_kind(kind)
-        },
-        Kind::Earmark | Kind::Fund | Kind::Settle | Kind::Free => Instruction {
-            trade: tokens.field()?,
-            ..Instruction::of_kind(kind)
-        },
-    };
-    Some(instruction)
+    Some(Instruction {
+        kind: kind.into(),
+        account: tokens.field_if(kind.uses(Field::Account))?,
+        counterparty: tokens.field_if(kind.uses(Field::Counterparty))?,
+        item: tokens.field_if(kind.uses(Field::Item))?,
+        currency: tokens.field_if(kind.uses(Field::Currency))?,
+        trade: tokens.field_if(kind.uses(Field::Trade))?,
+        quantity: tokens.field_if(kind.uses(Field::Quantity))?,
+        amount: tokens.field_if(kind.uses(Field::Amount))?,
+    })
 }
 
 fn read_position(tokens: &mut Tokens) -> Option<Position>
@@ -360,7 +362,8 @@ fn read_cut(tokens: &mut Tokens) -> Option<Cut>
 
 // All that is left of the line, which may be nothing.
 fn read_remains(tokens: &mut Tokens) -> Option<Remains>
-    ensures { remains_in MOST_REMAINS tokens.old.rest.now ≡ and_then result (at_line_end tokens.new.rest.now) }
+    ensures { remains_in MOST_REMAINS tokens.old.rest.now
+        ≡ and_then result (at_line_end tokens.new.rest.now) }
 {
     let mut remains = Remains::new();
     while !tokens.rest.is_empty() {

@@ -50,7 +50,8 @@ impl Remains {
             ((self.new ≡ self.old) × (MOST_REMAINS ≤ length self.old))
             (λ _. (self.new ≡ self.old ++ byte ∷ []) × (length self.old < MOST_REMAINS)) }
     {
-        // Indexed, since after a `get_mut` the library's contract keeps the array's length and not its contents.
+        // Indexed, since after a `get_mut` the library's contract keeps the array's length and not
+        // its contents.
         if self.count >= MOST_REMAINS {
             return None;
         }
