@@ -1,4 +1,4 @@
--- Each row of the marked trials. Assumes nothing.
+-- Each row of the marked trials.
 use Rattle.std.proofs.Common.{◌≡◌, ℕ, ◌<◌, false, eqb, refl, ap, arith}
 use Rattle.std.proofs.lemmas.Bool.{eq-eqb, lt-leb}
 use Rattle.refusals.specs.Numbers.{answer_number}

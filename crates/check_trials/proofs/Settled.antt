@@ -1,4 +1,4 @@
--- The settlement of one trade, computed. Assumes nothing.
+-- The settlement of one trade, computed.
 use Rattle.std.proofs.Common.{◌≡◌, ℕ, Ok, Result, refl, ap, ◌∙◌}
 use Rattle.refusals.specs.declared.Refusal.{Refusal}
 use Rattle.instruction.specs.declared.Instruction.{Instruction}

@@ -1,4 +1,4 @@
--- The trials whose results are proved, a row each. Assumes nothing.
+-- The trials whose results are proved, a row each.
 use Rattle.std.specs.Prelude.{◌≡◌, ℕ, ◌<◌, false, List, ◌∷◌, ◌++◌, replicate}
 use Rattle.refusals.specs.Numbers.{answer_number}
 use Rattle.instruction.specs.declared.Kind.TheVariants.{Earmark, Settle}

@@ -1,4 +1,4 @@
--- The code's ledger as a standing. Assumes nothing.
+-- The code's ledger as a standing.
 use Rattle.std.proofs.Common.{◌≡◌, ℕ, ◌<◌, ◌≤◌, ◌⊎◌, inl, inr, List, [], map, get_or, replicate, sym, ap, ◌∙◌, ⊎_elim, subst, arith}
 use Rattle.std.specs.List.{range_with_len}
 use Rattle.std.proofs.lemmas.List.{get_or_past, get_or-replicate}
@@ -10,29 +10,29 @@ use Rattle.book.specs.Holdings.{Holdings, BookKind, nothing}
 use Rattle.book.specs.Rulings.{no_holding, holding_of}
 use Rattle.rulebook.specs.declared.Trade.{Trade}
 use Rattle.rulebook.specs.Terms.{Side, securities, cash}
-use Rattle.rulebook.specs.Rules.{Rulebook, Standing, empty, start, Reached}
-use Rattle.ledger.specs.View.{both_sides, standing, holding_in, holdings_in, table_of, Tables, tables_in, standing_of, standing_in}
+use Rattle.rulebook.specs.Rules.{Rulebook, Standing, empty, start, IsReachable}
+use Rattle.ledger.specs.View.{both_sides, standing_between, holding_in, holdings_in, table_of, Tables, tables_in, standing_of, standing_in}
 use Rattle.ledger.specs.declared.parts.Parts.{Parts}
-use Rattle.ledger.specs.Rows.{blank, state_at, terms_at}
+use Rattle.ledger.specs.Rows.{unentered_trade, state_at, terms_at}
 
-replicated : (t : ℕ) → get_or (replicate 128 blank) t blank ≡ blank
-replicated t = ⊎_elim (λ l. get_or-replicate 128 t blank blank l) (λ p. get_or_past (replicate 128 blank) t blank p) (cases_lt t 128)
+replicated : (t : ℕ) → get_or (replicate 128 unentered_trade) t unentered_trade ≡ unentered_trade
+replicated t = ⊎_elim (λ l. get_or-replicate 128 t unentered_trade unentered_trade l) (λ p. get_or_past (replicate 128 unentered_trade) t unentered_trade p) (cases_lt t 128)
 
 -- books and trades that are equal at each place are the same standing
 pub standing-same : (r c : Holdings) (rows : List Trade) (s : Standing) → r ≡ s.book securities → c ≡ s.book cash
-    → ((t : ℕ) → state_at rows t ≡ s.state t) → ((t : ℕ) → terms_at rows t ≡ s.terms t) → standing r c rows ≡ s
+    → ((t : ℕ) → state_at rows t ≡ s.state t) → ((t : ℕ) → terms_at rows t ≡ s.terms t) → standing_between r c rows ≡ s
 standing-same r c rows s er ec es em =
     let books : (d : Side) → both_sides r c d ≡ s.book d = λ d. elim d as (λ d. both_sides r c d ≡ s.book d) [ securities ↦ er | cash ↦ ec ] in
     λ k. record { book = λ d. books d k; state = λ t. es t k; terms = λ t. em t k }
 
-pub fresh : (r c : Holdings) (rows : List Trade) → r ≡ nothing → c ≡ nothing → rows ≡ replicate 128 blank → standing r c rows ≡ empty
+pub fresh : (r c : Holdings) (rows : List Trade) → r ≡ nothing → c ≡ nothing → rows ≡ replicate 128 unentered_trade → standing_between r c rows ≡ empty
 fresh r c rows er ec e =
-    let row : (t : ℕ) → get_or rows t blank ≡ blank = λ t. ap (λ z. get_or z t blank) e ∙ replicated t in
+    let row : (t : ℕ) → get_or rows t unentered_trade ≡ unentered_trade = λ t. ap (λ z. get_or z t unentered_trade) e ∙ replicated t in
     standing-same r c rows empty er ec (λ t. ap (λ z. z.state) (row t)) (λ t. ap (λ z. z.terms) (row t))
 
 -- no instruction leads to the empty standing
-pub reached-empty : (h : Rulebook) (s : Standing) → s ≡ empty → Reached h s
-reached-empty h s e = subst (Reached h) (sym e) ([], start)
+pub reachable-empty : (h : Rulebook) (s : Standing) → s ≡ empty → IsReachable h s
+reachable-empty h s e = subst (IsReachable h) (sym e) ([], start)
 
 -- a book has nothing of an account or an item that it has not
 abbrev pub Outside : BookKind → Holdings → Type 0
@@ -69,5 +69,5 @@ pub stands : {R C : Type 0} (r : book.Ghosts R) (c : book.Ghosts C) (p : Parts R
 stands r c p or oc e =
     let rows = p.trades.rows in
     ap standing_of (sym e)
-    ∙ ap (λ b. standing b (holdings_in (table_of c.book_kind (c.holdings p.cash))) rows) (tabled r.book_kind (r.holdings p.register) (or p.register))
-    ∙ ap (λ b. standing (r.holdings p.register) b rows) (tabled c.book_kind (c.holdings p.cash) (oc p.cash))
+    ∙ ap (λ b. standing_between b (holdings_in (table_of c.book_kind (c.holdings p.cash))) rows) (tabled r.book_kind (r.holdings p.register) (or p.register))
+    ∙ ap (λ b. standing_between (r.holdings p.register) b rows) (tabled c.book_kind (c.holdings p.cash) (oc p.cash))

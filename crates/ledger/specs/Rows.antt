@@ -1,5 +1,5 @@
--- The rows of the table of trades. Assumes nothing.
-use Rattle.std.specs.Prelude.{ℕ, cond, not, List, Some, None, Ok, Err, Option, Result, nat_le, slice_index_or, slice_set}
+-- The rows of the table of trades.
+use Rattle.std.specs.Prelude.{ℕ, if◌then◌else◌, not, List, Some, None, Ok, Err, Option, Result, nat_le, slice_index_or, slice_set}
 use Rattle.refusals.specs.declared.Refusal.{Refusal}
 use Rattle.refusals.specs.Numbers.{numbered}
 use Rattle.instruction.specs.declared.Instruction.{Instruction}
@@ -8,17 +8,17 @@ use Rattle.rulebook.specs.declared.State.{State}
 use Rattle.rulebook.specs.declared.State.TheVariants.{Unentered}
 use Rattle.rulebook.specs.declared.Terms.{Terms}
 use Rattle.rulebook.specs.declared.Trade.{Trade}
-use Rattle.rulebook.specs.Table.{Act, starts}
+use Rattle.rulebook.specs.Table.{Act, may_start}
 use Rattle.rulebook.specs.Terms.{no_terms}
-use Rattle.rulebook.specs.Rules.{turned_trade}
+use Rattle.rulebook.specs.Rules.{next_trade}
 
 -- a trade that was never entered
-abbrev pub blank : Trade
-blank = record { state = Unentered; terms = no_terms }
+abbrev pub unentered_trade : Trade
+unentered_trade = record { state = Unentered; terms = no_terms }
 
--- the trade of this number; past the table, one that was never entered
+-- the trade with this number; past the table, one that was never entered
 abbrev pub trade_at : List Trade → ℕ → Trade
-trade_at rows t = slice_index_or rows t blank
+trade_at rows t = slice_index_or rows t unentered_trade
 
 abbrev pub state_at : List Trade → ℕ → State
 state_at rows t = (trade_at rows t).state
@@ -26,28 +26,30 @@ state_at rows t = (trade_at rows t).state
 abbrev pub terms_at : List Trade → ℕ → Terms
 terms_at rows t = (trade_at rows t).terms
 
--- one row of the table changed
-abbrev pub put : List Trade → ℕ → Trade → List Trade
-put rows t trade = cond (nat_le TRADES t) rows (slice_set rows t trade)
+-- the table with this trade in row t, if it has that row
+abbrev pub rows_with : List Trade → ℕ → Trade → List Trade
+rows_with rows t trade = if nat_le TRADES t then rows else slice_set rows t trade
 
+-- what putting a trade there answers
 abbrev pub put_answer : ℕ → Result (Unit {0}) Refusal
-put_answer t = cond (nat_le TRADES t) (Err (numbered 30)) (Ok tt)
+put_answer t = if nat_le TRADES t then Err (numbered 30) else Ok tt
 
--- the trade that an instruction may start from, or why it may not
-abbrev pub startable : Act → Refusal → List Trade → ℕ → Result Trade Refusal
-startable k r rows t =
-    cond (nat_le TRADES t) (Err (numbered 30))
-    (cond (not (starts k (state_at rows t))) (Err r) (Ok (trade_at rows t)))
+-- the trade with this number, if an instruction of kind k may start from its state; else why not
+abbrev pub startable_trade : Act → Refusal → List Trade → ℕ → Result Trade Refusal
+startable_trade k r rows t =
+    if nat_le TRADES t then Err (numbered 30)
+    else if not (may_start k (state_at rows t)) then Err r
+    else Ok (trade_at rows t)
 
--- one trade put where there is one
-abbrev pub rows_with : List Trade → ℕ → Option Trade → List Trade
-rows_with rows t (Some trade) = put rows t trade
-rows_with rows t None = rows
+-- the same where there may be no trade to put
+abbrev pub rows_with_any : List Trade → ℕ → Option Trade → List Trade
+rows_with_any rows t (Some trade) = rows_with rows t trade
+rows_with_any rows t None = rows
 
--- and the table
+-- the table after an instruction of kind k
 abbrev pub rows_after : Act → Instruction → List Trade → List Trade
-rows_after k x rows = rows_with rows x.trade (turned_trade k x (trade_at rows x.trade))
+rows_after k x rows = rows_with_any rows x.trade (next_trade k x (trade_at rows x.trade))
 
--- the question of a trade's state
+-- what the question of a trade's state is answered, where the states are these
 abbrev pub state_question : (ℕ → State) → ℕ → Result State Refusal
-state_question f t = cond (nat_le TRADES t) (Err (numbered 30)) (Ok (f t))
+state_question f t = if nat_le TRADES t then Err (numbered 30) else Ok (f t)

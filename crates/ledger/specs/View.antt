@@ -1,4 +1,4 @@
--- What a contract sees of a ledger, and where the ledger stands. Assumes nothing.
+-- What a contract sees of a ledger, and where a ledger stands.
 use Rattle.std.specs.Prelude.{◌≡◌, ℕ, List, [], map, Some, Ok, Err, Result, slice_index_or}
 use Rattle.std.specs.List.{range_with_len}
 use Rattle.refusals.specs.declared.Refusal.{Refusal}
@@ -17,40 +17,42 @@ use Rattle.rulebook.specs.Table.{Act}
 use Rattle.rulebook.specs.Rules.{Rulebook, Standing, deed}
 use Rattle.ledger.specs.Rows.{state_at, terms_at}
 
+-- one value for the register, one for the cash book
 abbrev pub both_sides : {X : Type 0} → X → X → Side → X
 both_sides r c securities = r
 both_sides r c cash = c
 
--- the register's and the cash book's kinds as a rule book
+-- the rule book of a register and a cash book of these kinds
 abbrev pub rulebook_of : BookKind → BookKind → Rulebook
 rulebook_of r c = record { book_kind = both_sides r c }
 
--- a table of trades between two books
-abbrev pub standing : Holdings → Holdings → List Trade → Standing
-standing r c rows = record { book = both_sides r c; state = state_at rows; terms = terms_at rows }
+-- where a ledger stands that has these two books and this table of trades
+abbrev pub standing_between : Holdings → Holdings → List Trade → Standing
+standing_between r c rows =
+    record { book = both_sides r c; state = state_at rows; terms = terms_at rows }
 
--- a book in a table: a row for each account, and in it a holding for each item
-abbrev pub Table : Type 0
-Table = List (List Holding)
+-- a book's amounts as a table: a row for each account, and in it a holding for each item
+abbrev pub HoldingTable : Type 0
+HoldingTable = List (List Holding)
 
--- an account or an item that the table has not has nothing
-abbrev pub holding_in : Table → ℕ → ℕ → Holding
+-- an account or an item that is not in the table has nothing
+abbrev pub holding_in : HoldingTable → ℕ → ℕ → Holding
 holding_in t account item = slice_index_or (slice_index_or t account []) item no_holding
 
-abbrev pub holdings_in : Table → Holdings
+abbrev pub holdings_in : HoldingTable → Holdings
 holdings_in t = record {
   free = λ a i. (holding_in t a i).free;
   blocked = λ a i. (holding_in t a i).blocked;
 }
 
-unfoldable pub table_of : BookKind → Holdings → Table
+unfoldable pub table_of : BookKind → Holdings → HoldingTable
 table_of k b =
     map (λ a. map (holding_of b a) (range_with_len 0 k.items)) (range_with_len 0 ACCOUNTS)
 
--- a ledger, as a contract sees it
+-- A ledger, as a contract sees it.
 pub record Tables : Type 0 where
-  pub register : Table
-  pub cash : Table
+  pub register : HoldingTable
+  pub cash : HoldingTable
   pub trades : List Trade
 
 abbrev pub tables_in : {R C : Type 0} → book.Ghosts R → book.Ghosts C → Parts R C → Tables
@@ -62,21 +64,22 @@ tables_in r c p = record {
 
 -- where a ledger stands
 abbrev pub standing_of : Tables → Standing
-standing_of t = standing (holdings_in t.register) (holdings_in t.cash) t.trades
+standing_of t = standing_between (holdings_in t.register) (holdings_in t.cash) t.trades
 
--- and its parts, by the meaning of each book
+-- the same of its parts, by what each book means
 abbrev pub standing_in : {R C : Type 0} → book.Ghosts R → book.Ghosts C → Parts R C → Standing
-standing_in r c p = standing (r.holdings p.register) (c.holdings p.cash) p.trades.rows
+standing_in r c p = standing_between (r.holdings p.register) (c.holdings p.cash) p.trades.rows
 
--- what an instruction about a trade makes of one side's book
+-- the book of one side after an instruction of kind k, its trade being this one
 abbrev pub book_after : BookKind → Side → Act → Instruction → Trade → Holdings → Holdings
-book_after k d act x trade b = outcome k b (deed act d trade.state trade.terms x)
+book_after bk d k x trade b = outcome bk b (deed k d trade.state trade.terms x)
 
--- the kind of an accepted instruction, or the fault of a refused one
-abbrev pub IsJudged : Act → Result (Unit {0}) Fault → Result Kind Fault → Type 0
-IsJudged k verdict (Ok kind) = (k ≡ Some kind) × (verdict ≡ Ok tt)
-IsJudged k verdict (Err fault) = verdict ≡ Err fault
+-- an instruction of kind k: its kind where the rules' answer to it is yes, else the answer's fault
+abbrev pub IsKindOrFault : Act → Result (Unit {0}) Fault → Result Kind Fault → Type 0
+IsKindOrFault k answer (Ok kind) = (k ≡ Some kind) × (answer ≡ Ok tt)
+IsKindOrFault k answer (Err fault) = answer ≡ Err fault
 
--- the question of what an account has of an item, or of a currency
+-- what the question of an account's amounts in one item of a book is answered
 abbrev pub holding_question : Rulebook → Standing → Side → ℕ → ℕ → Result Holding Refusal
-holding_question h s d account item = amount_answer (h.book_kind d) (holding_of (s.book d)) account item
+holding_question h s d account item =
+    amount_answer (h.book_kind d) (holding_of (s.book d)) account item

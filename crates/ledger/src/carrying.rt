@@ -1,4 +1,4 @@
-// Carrying out an instruction that the rules accept.
+//! Carrying out an instruction that the rules accept.
 ghost use Rattle.std.specs.Prelude.{◌≡◌, Some};
 ghost use Rattle.rulebook.specs.Terms.{securities, cash as money};
 ghost use Rattle.ledger.specs.Rows.{trade_at, rows_after};
@@ -10,7 +10,7 @@ use instruction::{Instruction, Kind};
 use rulebook::{State, Terms, Trade};
 
 impl<R: Book, C: Book> Parts<R, C> {
-    // The books and the trade after an instruction.
+    /// Has the books do what the instruction asks for, and moves its trade on.
     pub(crate) fn carry_out(&mut self, kind: Kind, x: &Instruction)
         ensures register { R.holdings self.new.register
             ≡ book_after R.book_kind securities (Some kind) x.now
@@ -20,17 +20,19 @@ impl<R: Book, C: Book> Parts<R, C> {
             (trade_at self.old.trades.rows x.now.trade) (C.holdings self.old.cash) }
         ensures trades { self.new.trades.rows ≡ rows_after (Some kind) x.now self.old.trades.rows }
     {
-        let trade = self.trades.at(x.trade);
+        let trade = self.trades.trade_at(x.trade);
         self.move_holdings(kind, &trade, x);
-        if let Some(turned) = trade.turned(kind, x) {
-            let _ = self.trades.put(x.trade, turned);
+        if let Some(next_trade) = trade.next_trade(kind, x) {
+            let _ = self.trades.put(x.trade, next_trade);
         }
     }
 
-    // What the instruction has the two books do. Their answers are let go: they accept what the rules accept.
+    // Has the two books do what the instruction asks for, its trade being this one. Their answers are
+    // dropped: the books accept whatever the rules accept.
     fn move_holdings(&mut self, kind: Kind, trade: &Trade, x: &Instruction)
         ensures register { R.holdings self.new.register
-            ≡ book_after R.book_kind securities (Some kind) x.now trade.now (R.holdings self.old.register) }
+            ≡ book_after R.book_kind securities (Some kind) x.now trade.now
+            (R.holdings self.old.register) }
         ensures cash { C.holdings self.new.cash
             ≡ book_after C.book_kind money (Some kind) x.now trade.now (C.holdings self.old.cash) }
         ensures trades { self.new.trades ≡ self.old.trades }

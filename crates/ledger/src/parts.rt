@@ -1,4 +1,4 @@
-// The parts of a ledger, however they stand: that the rules led there is what the ledger adds to them.
+//! The parts of a ledger: its trades and its two books, wherever they stand.
 ghost use Rattle.std.specs.Prelude.{◌≡◌};
 ghost use Rattle.rulebook.specs.Rules.{empty};
 ghost use Rattle.ledger.specs.View.{standing_in};
@@ -6,6 +6,8 @@ ghost use Rattle.ledger.specs.View.{standing_in};
 use crate::trades::Trades;
 use book::Book;
 
+// A `Ledger` adds the invariant that accepted instructions led to where its parts stand. Within a call
+// the parts change one after another, and it does not hold.
 #[derive(Drop)]
 pub(crate) struct Parts<R: Book, C: Book> {
     pub(crate) trades: Trades,
@@ -14,6 +16,7 @@ pub(crate) struct Parts<R: Book, C: Book> {
 }
 
 impl<R: Book, C: Book> Parts<R, C> {
+    /// Makes all amounts 0 and every trade unentered.
     pub(crate) fn clear(&mut self)
         ensures { standing_in R.Book C.Book self.new ≡ empty }
     {

@@ -1,5 +1,5 @@
--- What an accepted instruction says. Assumes nothing.
-use Rattle.std.proofs.Common.{◌≡◌, ℕ, ◌<◌, Bool, true, false, not, eqb, List, [], ◌∷◌, Some, None, Ok, sym, refl, arith}
+-- What follows where an instruction is accepted.
+use Rattle.std.proofs.Common.{◌≡◌, ℕ, ◌<◌, Bool, true, false, not, T, eqb, List, [], ◌∷◌, Some, None, Ok, sym, refl, arith}
 use Rattle.std.proofs.lemmas.Bool.{leb-false}
 use Rattle.instruction.specs.declared.Kind.TheVariants.{Issue, PayIn, Enter, Earmark, Fund, Settle, Free}
 use Rattle.instruction.specs.declared.Instruction.{Instruction}
@@ -9,9 +9,10 @@ use Rattle.book.proofs.Accepted.{Clear, clear}
 use Rattle.rulebook.specs.declared.State.{State}
 use Rattle.rulebook.specs.declared.State.TheVariants.{Unentered, Entered}
 use Rattle.rulebook.specs.declared.Terms.{Terms}
-use Rattle.rulebook.specs.Table.{Act, starts}
+use Rattle.rulebook.specs.Table.{Act, may_start}
 use Rattle.rulebook.specs.Terms.{Side, securities, cash}
-use Rattle.rulebook.specs.Rules.{Rulebook, Standing, holds, is_settled, all_checks, is_enter, OfTrade}
+use Rattle.rulebook.specs.Rules.{Rulebook, Standing, has_blocked, all_checks, names_trade, is_enter}
+use Rattle.rulebook.proofs.Replay.{is_settled}
 
 pub passes : (cs : List Check) → Clear cs → first_refusal cs ≡ Ok tt
 passes [] c = refl
@@ -28,41 +29,45 @@ not-false false e = sym e
 -- an accepted instruction of a trade: its number and its state before are right
 pub record Right (h : Rulebook) (k : Act) (o : State) (x : Instruction) : Type 0 where
   pub low : x.trade < 128
-  pub from : starts k o ≡ true
+  pub from : may_start k o ≡ true
 
-pub right : (h : Rulebook) (k : Act) (o : State) (m : Terms) (s : Standing) (x : Instruction) → OfTrade k → first_refusal (all_checks h k o m s x) ≡ Ok tt → Right h k o x
+-- a kind of instruction that names a trade
+abbrev pub IsOfTrade : Act → Type 0
+IsOfTrade k = T (names_trade k)
+
+pub right : (h : Rulebook) (k : Act) (o : State) (m : Terms) (s : Standing) (x : Instruction) → IsOfTrade k → first_refusal (all_checks h k o m s x) ≡ Ok tt → Right h k o x
 right h (Some Issue) o m s x t e = absurd t
 right h (Some PayIn) o m s x t e = absurd t
 right h None o m s x t e = absurd t
 right h k o m s x t e = let c = cleared h m s x k o e in record { low = leb-false _ _ c.1.1.0; from = not-false _ c.1.1.1.0 }
 
--- what the table says of what counts. Enter starts where nothing counts
+-- in this state a trade has nothing blocked and is not settled; an Enter starts from such a state
 pub record Idle (d : Side) (o : State) : Type 0 where
-  pub holds-none : holds d o ≡ false
+  pub none-blocked : has_blocked d o ≡ false
   pub unsettled : is_settled o ≡ false
 
-pub enter-idle : (h : Rulebook) (d : Side) (o : State) → starts (Some Enter) o ≡ true → Idle d o
-enter-idle h d o e = record { holds-none = grind arith; unsettled = grind arith }
+pub enter-idle : (h : Rulebook) (d : Side) (o : State) → may_start (Some Enter) o ≡ true → Idle d o
+enter-idle h d o e = record { none-blocked = grind arith; unsettled = grind arith }
 
 pub entered-idle : (d : Side) → Idle d Entered
-entered-idle securities = record { holds-none = refl; unsettled = refl }
-entered-idle cash = record { holds-none = refl; unsettled = refl }
+entered-idle securities = record { none-blocked = refl; unsettled = refl }
+entered-idle cash = record { none-blocked = refl; unsettled = refl }
 
 -- Earmark blocks securities only, Fund cash only
-pub earmark-idle : (h : Rulebook) (d : Side) (o : State) → starts (Some Earmark) o ≡ true → Idle d o
-earmark-idle h d o e = record { holds-none = grind arith; unsettled = grind arith }
+pub earmark-idle : (h : Rulebook) (d : Side) (o : State) → may_start (Some Earmark) o ≡ true → Idle d o
+earmark-idle h d o e = record { none-blocked = grind arith; unsettled = grind arith }
 
-pub fund-from : (h : Rulebook) (o : State) → starts (Some Fund) o ≡ true → (holds securities o ≡ true) × (holds cash o ≡ false) × (is_settled o ≡ false)
+pub fund-from : (h : Rulebook) (o : State) → may_start (Some Fund) o ≡ true → (has_blocked securities o ≡ true) × (has_blocked cash o ≡ false) × (is_settled o ≡ false)
 fund-from h o e = (grind arith, grind arith, grind arith)
 
-pub settle-from : (h : Rulebook) (d : Side) (o : State) → starts (Some Settle) o ≡ true → (holds d o ≡ true) × (is_settled o ≡ false)
+pub settle-from : (h : Rulebook) (d : Side) (o : State) → may_start (Some Settle) o ≡ true → (has_blocked d o ≡ true) × (is_settled o ≡ false)
 settle-from h d o e = (grind arith, grind arith)
 
-pub free-from : (h : Rulebook) (o : State) → starts (Some Free) o ≡ true → is_settled o ≡ false
+pub free-from : (h : Rulebook) (o : State) → may_start (Some Free) o ≡ true → is_settled o ≡ false
 free-from h o e = grind arith
 
--- what none of these starts from
-pub was-entered : (h : Rulebook) (k : Act) (o : State) → is_enter k ≡ false → starts k o ≡ true → o ≡ Unentered → ⊥
+-- a kind other than Enter starts from no trade that was never entered
+pub was-entered : (h : Rulebook) (k : Act) (o : State) → is_enter k ≡ false → may_start k o ≡ true → o ≡ Unentered → ⊥
 was-entered h k o e w z = grind arith
 
 -- the kind byte of an Enter

@@ -1,4 +1,4 @@
--- The sums of the law, by the fields, are those of the rules' words. Assumes nothing.
+-- The sums of the law are those by the words of the rules.
 use Rattle.std.proofs.Common.{◌≡◌, ℕ, zero, suc, ◌+◌, Bool, true, false, cond, ◌&&◌, eqb, map, sum_by, sym, refl, ap, ◌∙◌, add-one, arith}
 use Rattle.std.specs.List.{range_with_len}
 use Rattle.std.proofs.lemmas.List.{map-id}
@@ -9,7 +9,7 @@ use Rattle.rulebook.specs.declared.State.{State}
 use Rattle.rulebook.specs.declared.State.TheVariants.{Earmarked, Funded, Settled}
 use Rattle.rulebook.specs.declared.Terms.{Terms}
 use Rattle.rulebook.specs.Terms.{Side, securities, cash}
-use Rattle.rulebook.specs.Tally.{trades, counted, gift, receipt, hold}
+use Rattle.rulebook.specs.Tally.{trades, share, gift, receipt, hold}
 use Rattle.rulebook.proofs.Replay.{give_of, take_of, hold_of, over}
 
 both : (b c : Bool) (q : ℕ) → cond b (cond c q 0) 0 ≡ amount_if (b && c) q
@@ -32,25 +32,25 @@ unfolding trades
 over-trades f = sum-below f 128
 
 module _ (a i : ℕ) where
-  pub counted-is : (A I q : ℕ) → counted a i A I q ≡ amount_if (is_place A I a i) q
-  counted-is A I q = both (eqb A a) (eqb I i) q
+  pub share-is : (A I q : ℕ) → share a i A I q ≡ amount_if (is_place A I a i) q
+  share-is A I q = both (eqb A a) (eqb I i) q
 
   gift-is : (d : Side) (o : State) (m : Terms) → gift a i d o m ≡ give_of d a i o m
-  gift-is securities Settled m = search counted-is
-  gift-is cash Settled m = search counted-is
+  gift-is securities Settled m = search share-is
+  gift-is cash Settled m = search share-is
   gift-is securities o m = refl
   gift-is cash o m = refl
 
   receipt-is : (d : Side) (o : State) (m : Terms) → receipt a i d o m ≡ take_of d a i o m
-  receipt-is securities Settled m = search counted-is
-  receipt-is cash Settled m = search counted-is
+  receipt-is securities Settled m = search share-is
+  receipt-is cash Settled m = search share-is
   receipt-is securities o m = refl
   receipt-is cash o m = refl
 
   hold-is : (d : Side) (o : State) (m : Terms) → hold a i d o m ≡ hold_of d a i o m
-  hold-is securities Earmarked m = search counted-is
-  hold-is securities Funded m = search counted-is
-  hold-is cash Funded m = search counted-is
+  hold-is securities Earmarked m = search share-is
+  hold-is securities Funded m = search share-is
+  hold-is cash Funded m = search share-is
   hold-is securities o m = refl
   hold-is cash o m = refl
 
@@ -59,11 +59,11 @@ module _ (a i : ℕ) where
       → sum_by (λ t. f (st t) (tm t)) trades ≡ over g st tm
   summed f g e st tm = over-trades (λ t. f (st t) (tm t)) ∙ sum_below-same 128 _ _ (λ t l. e (st t) (tm t))
 
-  pub given-is : (d : Side) (st : ℕ → State) (tm : ℕ → Terms) → sum_by (λ t. gift a i d (st t) (tm t)) trades ≡ over (give_of d a i) st tm
-  given-is d st tm = summed (gift a i d) (give_of d a i) (gift-is d) st tm
+  pub gifts-is : (d : Side) (st : ℕ → State) (tm : ℕ → Terms) → sum_by (λ t. gift a i d (st t) (tm t)) trades ≡ over (give_of d a i) st tm
+  gifts-is d st tm = summed (gift a i d) (give_of d a i) (gift-is d) st tm
 
-  pub received-is : (d : Side) (st : ℕ → State) (tm : ℕ → Terms) → sum_by (λ t. receipt a i d (st t) (tm t)) trades ≡ over (take_of d a i) st tm
-  received-is d st tm = summed (receipt a i d) (take_of d a i) (receipt-is d) st tm
+  pub receipts-is : (d : Side) (st : ℕ → State) (tm : ℕ → Terms) → sum_by (λ t. receipt a i d (st t) (tm t)) trades ≡ over (take_of d a i) st tm
+  receipts-is d st tm = summed (receipt a i d) (take_of d a i) (receipt-is d) st tm
 
-  pub held-is : (d : Side) (st : ℕ → State) (tm : ℕ → Terms) → sum_by (λ t. hold a i d (st t) (tm t)) trades ≡ over (hold_of d a i) st tm
-  held-is d st tm = summed (hold a i d) (hold_of d a i) (hold-is d) st tm
+  pub holds-is : (d : Side) (st : ℕ → State) (tm : ℕ → Terms) → sum_by (λ t. hold a i d (st t) (tm t)) trades ≡ over (hold_of d a i) st tm
+  holds-is d st tm = summed (hold a i d) (hold_of d a i) (hold-is d) st tm

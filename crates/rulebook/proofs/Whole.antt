@@ -1,4 +1,4 @@
--- The law over whole runs. Assumes nothing.
+-- The law over whole runs.
 use Rattle.std.proofs.Common.{◌≡◌, ℕ, List, sym, refl, ap, ◌∙◌, subst, arith}
 use Rattle.std.proofs.lemmas.List.Sums.{fold_push, sum_by_push}
 use Rattle.instruction.specs.declared.Instruction.{Instruction}
@@ -6,14 +6,14 @@ use Rattle.instruction.specs.Kinds.{kind_at}
 use Rattle.book.specs.Holdings.{nothing}
 use Rattle.book.proofs.Sums.{sum_below-zero}
 use Rattle.rulebook.specs.declared.State.TheVariants.{Unentered}
-use Rattle.rulebook.specs.Table.{after}
+use Rattle.rulebook.specs.Table.{state_after}
 use Rattle.rulebook.specs.Terms.{no_terms, Side, securities, cash}
-use Rattle.rulebook.specs.Rules.{Rulebook, Standing, turned, is_enter, terms_after, Runs, start, more}
+use Rattle.rulebook.specs.Rules.{Rulebook, Standing, states_after, is_enter, terms_after, Runs, start, more}
 use Rattle.rulebook.proofs.Replay.{read_state, state_in, read_terms, terms_in, give_of, take_of, hold_of}
 use Rattle.rulebook.specs.Tally.{credit, credits}
-use Rattle.rulebook.proofs.Fields.{given-is, received-is, held-is}
+use Rattle.rulebook.proofs.Fields.{gifts-is, receipts-is, holds-is}
 use Rattle.rulebook.proofs.Meanings.{stay, after-last, stated-last}
-use Rattle.rulebook.specs.Words.{After, Stated}
+use Rattle.rulebook.specs.Words.{IsStateAfter, StatesTerms}
 use Rattle.rulebook.specs.Law.{LawOfTheLedger}
 use Rattle.rulebook.proofs.Step.{Fair, credited_by, fair-step}
 
@@ -25,7 +25,7 @@ module _ (h : Rulebook) where
   pub state-is : {xs : List Instruction} {s : Standing} → Runs h xs s → s.state ≡ state_in xs
   state-is start = refl
   state-is (more {xs = xs} {s = s} x r e) =
-      ap (λ f. turned (after (kind_at x.kind)) f x.trade) (state-is r) ∙ sym (fold_push read_state (λ t. Unentered) xs x)
+      ap (λ f. states_after (state_after (kind_at x.kind)) f x.trade) (state-is r) ∙ sym (fold_push read_state (λ t. Unentered) xs x)
 
   pub terms-is : {xs : List Instruction} {s : Standing} → Runs h xs s → s.terms ≡ terms_in xs
   terms-is start = refl
@@ -36,12 +36,12 @@ module _ (h : Rulebook) where
   fair-start d a i =
       let g = sum_below-zero 128 (λ t. give_of d a i Unentered no_terms) (λ t. refl) in
       let k = sum_below-zero 128 (λ t. take_of d a i Unentered no_terms) (λ t. refl) in
-      let m = sum_below-zero 128 (λ t. hold_of d a i Unentered no_terms) (λ t. holds-none d) in
+      let m = sum_below-zero 128 (λ t. hold_of d a i Unentered no_terms) (λ t. none-blocked d) in
       record { whole = omega arith; part = omega arith }
     where
-      holds-none : (d : Side) → hold_of d a i Unentered no_terms ≡ 0
-      holds-none securities = refl
-      holds-none cash = refl
+      none-blocked : (d : Side) → hold_of d a i Unentered no_terms ≡ 0
+      none-blocked securities = refl
+      none-blocked cash = refl
 
   pub fair : {xs : List Instruction} {s : Standing} → Runs h xs s → (d : Side) (a i : ℕ) → Fair d (s.book d) s.state s.terms (credits a i d xs) a i
   fair start d a i = fair-start d a i
@@ -52,12 +52,12 @@ module _ (h : Rulebook) where
 pub law-of-the-ledger : LawOfTheLedger
 law-of-the-ledger h xs s r = record {
   unentered = λ t n. ap (λ f. f t) (state-is h r) ∙ stay xs (λ t. Unentered) t n;
-  states = λ t x l. subst (λ f. After x.kind (f t)) (sym (state-is h r)) (after-last xs (λ t. Unentered) x t l);
-  terms = λ t x l. subst (λ f. Stated x (f t)) (sym (terms-is h r)) (stated-last xs (λ t. no_terms) x t l);
+  states = λ t x l. subst (λ f. IsStateAfter x.kind (f t)) (sym (state-is h r)) (after-last xs (λ t. Unentered) x t l);
+  terms = λ t x l. subst (λ f. StatesTerms x (f t)) (sym (terms-is h r)) (stated-last xs (λ t. no_terms) x t l);
   amounts = λ d a i.
       let f = fair h r d a i in
-      let g = given-is a i d s.state s.terms in
-      let k = received-is a i d s.state s.terms in
-      let m = held-is a i d s.state s.terms in
-      record { whole = omega (arith, f.whole, g, k); part = f.part ∙ sym m };
+      let g = gifts-is a i d s.state s.terms in
+      let k = receipts-is a i d s.state s.terms in
+      let m = holds-is a i d s.state s.terms in
+      record { whole = omega (arith, f.whole, g, k); blocked-part = f.part ∙ sym m };
 }

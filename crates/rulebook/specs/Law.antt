@@ -1,56 +1,63 @@
--- The law of the ledger, and what carrying out an instruction rests on. Assumes nothing.
+-- The law of the ledger, and what giving one instruction leaves.
 use Rattle.std.specs.Prelude.{◌≡◌, ℕ, ◌+◌, ◌≤◌, List, Ok, Err, Result}
 use Rattle.instruction.specs.declared.Instruction.{Instruction}
 use Rattle.instruction.specs.Kinds.{kind_at}
 use Rattle.book.specs.Rulings.{ruling}
 use Rattle.rulebook.specs.declared.State.TheVariants.{Unentered}
 use Rattle.rulebook.specs.Terms.{Side}
-use Rattle.rulebook.specs.Table.{Steps}
-use Rattle.rulebook.specs.Rules.{Rulebook, Standing, Runs, Reached, answer, step, deed}
-use Rattle.rulebook.specs.Tally.{credits, given, received, held}
-use Rattle.rulebook.specs.Words.{On, EnterOn, Never, Last, After, Stated}
+use Rattle.rulebook.specs.Table.{TradeSteps}
+use Rattle.rulebook.specs.Rules.{Rulebook, Standing, Runs, IsReachable, answer, step, deed}
+use Rattle.rulebook.specs.Tally.{credits, gifts, receipts, holds}
+use Rattle.rulebook.specs.Words.{IsOn, IsEnterOn, HasNo, IsLast, IsStateAfter, StatesTerms}
 
--- For an account a and an item i of the book of side d: free and blocked together are the credits and
--- what was received, less what was given; and what is blocked is what open trades hold.
-pub record Balanced (d : Side) (xs : List Instruction) (s : Standing) (a i : ℕ) : Type 0 where
+-- For account a and item i of side d's book, the amounts add up.
+pub record AddsUp (d : Side) (xs : List Instruction) (s : Standing) (a i : ℕ) : Type 0 where
+  -- what is free, what is blocked and what the account gave, is what it was credited and received
   pub whole :
-      (s.book d).free a i + (s.book d).blocked a i + given a i d s ≡ credits a i d xs + received a i d s
-  pub part : (s.book d).blocked a i ≡ held a i d s
+      (s.book d).free a i + (s.book d).blocked a i + gifts a i d s
+      ≡ credits a i d xs + receipts a i d s
+  -- what is blocked is what trades hold
+  pub blocked-part : (s.book d).blocked a i ≡ holds a i d s
 
--- A list of accepted instructions says where things stand: each trade's state and terms, and each
--- account's amounts of each item.
+-- The list determines where a ledger stands: each trade's state and terms, each account's amounts.
 pub record Determines (xs : List Instruction) (s : Standing) : Type 0 where
-  -- a trade of which the list has no instruction was never entered
-  pub unentered : (t : ℕ) → Never (On t) xs → s.state t ≡ Unentered
-  -- any other trade's state is that after its last instruction
-  pub states : (t : ℕ) (x : Instruction) → Last (On t) x xs → After x.kind (s.state t)
-  -- and its terms are those of its last Enter
-  pub terms : (t : ℕ) (x : Instruction) → Last (EnterOn t) x xs → Stated x (s.terms t)
-  pub amounts : (d : Side) (a i : ℕ) → Balanced d xs s a i
+  -- a trade on which the list has no instruction was never entered
+  pub unentered : (t : ℕ) → HasNo (IsOn t) xs → s.state t ≡ Unentered
+  -- any other trade is in the state in which its last instruction leaves it
+  pub states :
+      (t : ℕ) (x : Instruction) → IsLast (IsOn t) x xs → IsStateAfter x.kind (s.state t)
+  -- and on the terms that its last Enter states
+  pub terms :
+      (t : ℕ) (x : Instruction) → IsLast (IsEnterOn t) x xs → StatesTerms x (s.terms t)
+  pub amounts : (d : Side) (a i : ℕ) → AddsUp d xs s a i
 
+-- The law: whatever the rule book, a list of instructions that is accepted one after another, from the
+-- empty standing on, determines the standing to which it leads.
 abbrev pub LawOfTheLedger : Type 0
-LawOfTheLedger = (h : Rulebook) (xs : List Instruction) (s : Standing) → Runs h xs s → Determines xs s
+LawOfTheLedger =
+    (h : Rulebook) (xs : List Instruction) (s : Standing) → Runs h xs s → Determines xs s
 
--- What an accepted instruction has the books do, they accept: a Settle or a Free never finds too
--- little blocked.
-abbrev pub CarriedOut : Rulebook → Standing → Instruction → Type 0
-CarriedOut h s x =
+-- Where the rules accept an instruction, each book accepts what they have it do: a Settle or a Free
+-- never finds too little blocked.
+abbrev pub BooksAccept : Rulebook → Standing → Instruction → Type 0
+BooksAccept h s x =
     answer h s x ≡ Ok tt → (d : Side)
-    → ruling (h.book_kind d) (s.book d) (deed (kind_at x.kind) d (s.state x.trade) (s.terms x.trade) x) ≡ Ok tt
+    → ruling (h.book_kind d) (s.book d) (deed (kind_at x.kind) d (s.state x.trade) (s.terms x.trade) x)
+    ≡ Ok tt
 
--- An instruction was given where a list of accepted instructions had led.
-pub record FollowsRules (h : Rulebook) (before now-standing : Standing) (x : Instruction) : Type 0 where
+-- A ledger that stood at `old` was given the instruction x, and stands at `new`.
+pub record FollowsRules (h : Rulebook) (old new : Standing) (x : Instruction) : Type 0 where
   -- books and trades are those of the rules
-  pub after : now-standing ≡ step h before x
-  -- and accepted instructions lead here too
-  pub reached : Reached h now-standing
-  pub carried-out : CarriedOut h before x
-  -- a trade moves by one of the table's steps
-  pub moves :
-      answer h before x ≡ Ok tt → 3 ≤ x.kind → x.kind ≤ 7
-      → Steps (before.state x.trade) x.kind (now-standing.state x.trade)
+  pub after : new ≡ step h old x
+  -- accepted instructions lead there too, so the law holds of it
+  pub reachable : IsReachable h new
+  pub books-accept : BooksAccept h old x
+  -- an accepted instruction of kind 3 to 7 moves its trade by one of the steps
+  pub trade-steps :
+      answer h old x ≡ Ok tt → 3 ≤ x.kind → x.kind ≤ 7
+      → TradeSteps (old.state x.trade) x.kind (new.state x.trade)
 
--- in words: a refused instruction leaves books and trades as they were
+-- what a call answers, and where the ledger stands before and after it: a refusal moves nothing
 abbrev pub RefusalChangesNothing : {X E : Type 0} → Result X E → Standing → Standing → Type 0
-RefusalChangesNothing (Ok u) before now-standing = Unit {0}
-RefusalChangesNothing (Err f) before now-standing = now-standing ≡ before
+RefusalChangesNothing (Ok u) old new = Unit {0}
+RefusalChangesNothing (Err f) old new = new ≡ old

@@ -1,84 +1,72 @@
 -- The rule book: what an instruction is answered, and what an accepted one changes.
-use Rattle.std.specs.Prelude.{◌≡◌, ℕ, ◌≤◌, Bool, true, false, cond, not, ◌||◌, T, leb, List, [], ◌∷◌, ◌++◌, Some, None, Ok, Err, Option, Result, ◌==◌, nat_eq, nat_le, nat_lt}
+use Rattle.std.specs.Prelude.{◌≡◌, ℕ, ◌≤◌, Bool, true, false, if◌then◌else◌, not, ◌||◌, List, [], ◌∷◌, ◌++◌, Some, None, Ok, Err, Option, Result, ◌==◌, nat_eq, nat_le, nat_lt}
 use Rattle.std.specs.Option.{option_map}
 use Rattle.refusals.specs.declared.Refusal.{Refusal}
 use Rattle.refusals.specs.declared.Fault.{Fault}
 use Rattle.refusals.specs.Faults.{plain, of_trade}
 use Rattle.instruction.specs.declared.Kind.TheVariants.{Issue, PayIn, Enter, Earmark, Fund, Settle, Free}
 use Rattle.instruction.specs.declared.Instruction.{Instruction}
+use Rattle.instruction.specs.declared.Field.TheVariants.{Trade as TradeField}
 use Rattle.instruction.specs.Kinds.{kind_at}
+use Rattle.instruction.specs.Fields.{uses, has_stray}
 use Rattle.book.specs.declared.TheConstants.{ACCOUNTS}
 use Rattle.book.specs.Holdings.{Holdings, BookKind, nothing, Deed, no_change, crediting, blocking, releasing, moving, apply}
 use Rattle.refusals.specs.Answers.{if_ok}
 use Rattle.book.specs.Rulings.{Check, ◌refuses◌, first_refusal, checks}
 use Rattle.rulebook.specs.declared.TheConstants.{TRADES}
 use Rattle.rulebook.specs.declared.State.{State}
-use Rattle.rulebook.specs.declared.State.TheVariants.{Unentered, Earmarked, Funded, Settled}
+use Rattle.rulebook.specs.declared.State.TheVariants.{Unentered, Earmarked, Funded}
 use Rattle.rulebook.specs.declared.Terms.{Terms}
 use Rattle.rulebook.specs.declared.Trade.{Trade}
-use Rattle.rulebook.specs.Table.{Act, rank, among, after, starts, next}
+use Rattle.rulebook.specs.Table.{Act, is_among, state_after, may_start, next_state}
 use Rattle.rulebook.specs.Terms.{no_terms, terms_of, Side, securities, cash, giver, taker, asset, volume}
 
--- what is fixed before the first instruction: the kinds of the register and of the cash book
+-- What is fixed before the first instruction.
 pub record Rulebook : Type 0 where
+  -- the kinds of the register and of the cash book
   pub book_kind : Side → BookKind
 
--- where a ledger stands: the two books, and each trade's state and terms
+-- Where a ledger stands.
 pub record Standing : Type 0 where
+  -- the register and the cash book
   pub book : Side → Holdings
+  -- each trade's state and terms, by its number
   pub state : ℕ → State
   pub terms : ℕ → Terms
 
+-- no instruction was accepted yet
 abbrev pub empty : Standing
 empty = record { book = λ d. nothing; state = λ t. Unentered; terms = λ t. no_terms }
 
--- the states in which a trade has its quantity, or its amount, blocked
-abbrev pub holding : Side → List State
-holding securities = Earmarked ∷ Funded ∷ []
-holding cash = Funded ∷ []
+-- the states in which a trade has its quantity blocked, or its amount
+abbrev pub states_with_blocked : Side → List State
+states_with_blocked securities = Earmarked ∷ Funded ∷ []
+states_with_blocked cash = Funded ∷ []
 
-abbrev pub holds : Side → State → Bool
-holds d o = among o (holding d)
+abbrev pub has_blocked : Side → State → Bool
+has_blocked d o = is_among o (states_with_blocked d)
 
-abbrev pub is_settled : State → Bool
-is_settled o = rank o == rank Settled
-
-abbrev pub non_zero : ℕ → Bool
-non_zero n = not (n == 0)
-
--- the kinds that the rules know: the same in every rule book
-abbrev pub known : Rulebook → Act → Bool
-known h None = false
-known h (Some k) = true
-
--- some field other than the kind and the trade is not 0
-abbrev pub past_trade : Instruction → Bool
-past_trade x =
-    non_zero x.account || (non_zero x.counterparty || (non_zero x.item
-    || (non_zero x.currency || (non_zero x.quantity || non_zero x.amount))))
+-- A rule book says which kinds of instruction it knows. Every rule book knows all seven.
+abbrev pub knows_kind : Rulebook → Act → Bool
+knows_kind h None = false
+knows_kind h (Some k) = true
 
 -- a field that the kind does not use is not 0
 abbrev pub stray : Act → Instruction → Bool
-stray (Some Issue) x =
-    non_zero x.counterparty || (non_zero x.currency || (non_zero x.trade || non_zero x.amount))
-stray (Some PayIn) x =
-    non_zero x.counterparty || (non_zero x.item || (non_zero x.trade || non_zero x.quantity))
-stray (Some Enter) x = false
-stray (Some Earmark) x = past_trade x
-stray (Some Fund) x = past_trade x
-stray (Some Settle) x = past_trade x
-stray (Some Free) x = past_trade x
+stray (Some k) x = has_stray k x
 stray None x = false
 
--- the trade's number, then its state
+-- the trade's number; its state, which refuses by the number n; then the further checks
 abbrev pub trade_checks : Act → ℕ → State → Instruction → List Check → List Check
-trade_checks k n o x cs = leb TRADES x.trade refuses 30 ∷ not (starts k o) refuses n ∷ cs
+trade_checks k n o x cs = nat_le TRADES x.trade refuses 30 ∷ not (may_start k o) refuses n ∷ cs
 
+-- the giver has enough free of what the trade gives on this side
 abbrev pub enough_free : Side → Terms → Standing → Check
 enough_free d m s = nat_lt ((s.book d).free (giver d m) (asset d m)) (volume d m) refuses 25
 
 module _ (h : Rulebook) where
-  -- what an Enter is checked for, once its trade may be entered
+  -- what an Enter is checked for once its trade may be entered: seller and buyer differ, both
+  -- accounts exist, item and currency exist, and neither the quantity nor the amount is 0
   abbrev pub enter_checks : Instruction → List Check
   enter_checks x =
       nat_eq x.account x.counterparty refuses 33
@@ -87,7 +75,7 @@ module _ (h : Rulebook) where
       refuses 22
       ∷ (x.quantity == 0 || x.amount == 0) refuses 23 ∷ []
 
-  -- the checks of each kind, the trade being in state o on terms m
+  -- the checks of a kind, where the trade is in state o on terms m
   abbrev pub checks_of : Act → State → Terms → Standing → Instruction → List Check
   checks_of (Some Issue) o m s x =
       checks (h.book_kind securities) (s.book securities) (crediting x.account x.item x.quantity)
@@ -101,80 +89,79 @@ module _ (h : Rulebook) where
   checks_of (Some Free) o m s x = trade_checks (Some Free) 35 o x []
   checks_of None o m s x = []
 
+  -- all checks in their order: the kind, fields that it does not use, those of the kind
   abbrev pub all_checks : Act → State → Terms → Standing → Instruction → List Check
-  all_checks k o m s x = not (known h k) refuses 32 ∷ stray k x refuses 31 ∷ checks_of k o m s x
+  all_checks k o m s x =
+      not (knows_kind h k) refuses 32 ∷ stray k x refuses 31 ∷ checks_of k o m s x
 
-  -- the answer to an instruction of this kind, and of the kind that its kind byte says
+  -- the answer to an instruction that is taken as one of this kind
   abbrev pub answer_as : Act → Standing → Instruction → Result (Unit {0}) Refusal
   answer_as k s x = first_refusal (all_checks k (s.state x.trade) (s.terms x.trade) s x)
 
+  -- the answer to an instruction: its kind byte says the kind
   abbrev pub answer : Standing → Instruction → Result (Unit {0}) Refusal
   answer s x = answer_as (kind_at x.kind) s x
 
--- an instruction of kinds 3 to 7 names a trade
+-- an instruction of a kind that uses the trade names one
 abbrev pub names_trade : Act → Bool
-names_trade (Some Issue) = false
-names_trade (Some PayIn) = false
-names_trade (Some Enter) = true
-names_trade (Some Earmark) = true
-names_trade (Some Fund) = true
-names_trade (Some Settle) = true
-names_trade (Some Free) = true
+names_trade (Some k) = uses k TradeField
 names_trade None = false
 
-abbrev pub OfTrade : Act → Type 0
-OfTrade k = T (names_trade k)
-
--- its fault says which
+-- a fault of such an instruction names that trade
 abbrev pub fault_about : Instruction → Fault → Fault
-fault_about x f = cond (names_trade (kind_at x.kind)) (of_trade x.trade f) f
+fault_about x f = if names_trade (kind_at x.kind) then of_trade x.trade f else f
 
--- By the kind bytes: at 3 to 7 the fault names the trade, at any other it names what it named; and it
--- is as it was in all else.
-pub record IsAbout (x : Instruction) (f about-x : Fault) : Type 0 where
-  pub named : 3 ≤ x.kind → x.kind ≤ 7 → about-x.trade ≡ Some x.trade
-  pub refusal : about-x.refusal ≡ f.refusal
-  pub block : about-x.block ≡ f.block
-  pub entry : about-x.entry ≡ f.entry
-  pub rule : about-x.rule ≡ f.rule
-  pub other : (3 ≤ x.kind → x.kind ≤ 7 → ⊥) → about-x.trade ≡ f.trade
+-- The same by the kind bytes: from the fault f of the instruction x comes the fault g.
+pub record NamesItsTrade (x : Instruction) (f g : Fault) : Type 0 where
+  -- at 3 to 7 it names the instruction's trade; at any other byte the trade that f names, if any
+  pub named : 3 ≤ x.kind → x.kind ≤ 7 → g.trade ≡ Some x.trade
+  pub other : (3 ≤ x.kind → x.kind ≤ 7 → ⊥) → g.trade ≡ f.trade
+  -- all else is as in f
+  pub refusal : g.refusal ≡ f.refusal
+  pub block : g.block ≡ f.block
+  pub entry : g.entry ≡ f.entry
+  pub rule : g.rule ≡ f.rule
 
--- so does its refusal
+-- the fault by which an instruction is refused
 abbrev pub fault_of : Instruction → Refusal → Fault
 fault_of x r = fault_about x (plain r)
 
+-- an answer whose refusal is a fault of the instruction
 abbrev pub with_trade : Instruction → Result (Unit {0}) Refusal → Result (Unit {0}) Fault
 with_trade x (Ok u) = Ok u
 with_trade x (Err r) = Err (fault_of x r)
 
+-- the rules' answer, with the trade in its fault
 abbrev pub fault_answer : Rulebook → Standing → Instruction → Result (Unit {0}) Fault
 fault_answer h s x = with_trade x (answer h s x)
 
--- a function changed at one place
-abbrev pub at : {X : Type 0} → (ℕ → X) → ℕ → X → ℕ → X
-at f t v u = cond (t == u) v (f u)
+-- the function f, with the value v at t
+abbrev pub updated : {X : Type 0} → (ℕ → X) → ℕ → X → ℕ → X
+updated f t v u = if t == u then v else f u
 
-abbrev pub turned : Option State → (ℕ → State) → ℕ → ℕ → State
-turned None f t = f
-turned (Some s) f t = at f t s
+-- the trades' states once trade t is in a new state, if it is in one
+abbrev pub states_after : Option State → (ℕ → State) → ℕ → ℕ → State
+states_after None f t = f
+states_after (Some s) f t = updated f t s
 
 abbrev pub is_enter : Act → Bool
 is_enter (Some Enter) = true
 is_enter k = false
 
+-- the trades' terms after an instruction that is an Enter, or is not
 abbrev pub terms_after : Bool → (ℕ → Terms) → Instruction → ℕ → Terms
-terms_after true f x = at f x.trade (terms_of x)
+terms_after true f x = updated f x.trade (terms_of x)
 terms_after false f x = f
 
--- a trade after an instruction that its state lets start
-abbrev pub turned_trade : Act → Instruction → Trade → Option Trade
-turned_trade k x trade =
-    option_map (λ p. record { state = p; terms = cond (is_enter k) (terms_of x) trade.terms })
-    (next k trade.state)
+-- the trade after an instruction of this kind, if it may start from the trade's state
+abbrev pub next_trade : Act → Instruction → Trade → Option Trade
+next_trade k x trade =
+    option_map (λ p. record { state = p; terms = if is_enter k then terms_of x else trade.terms })
+    (next_state k trade.state)
 
--- what each book does: Issue credits the register and Pay in the cash book; Earmark blocks the
--- seller's quantity and Fund the buyer's amount; Settle moves both; Free releases what the trade has
--- blocked
+-- What an instruction has one side's book do, where its trade is in state o on terms m. An Issue
+-- credits the register, a Pay in the cash book. An Earmark blocks what the seller gives, a Fund what
+-- the buyer pays. A Settle moves both. A Free releases whatever its trade has blocked.
 abbrev pub deed : Act → Side → State → Terms → Instruction → Deed
 deed (Some Issue) securities o m x = crediting x.account x.item x.quantity
 deed (Some Issue) cash o m x = no_change
@@ -186,10 +173,11 @@ deed (Some Earmark) cash o m x = no_change
 deed (Some Fund) securities o m x = no_change
 deed (Some Fund) cash o m x = blocking m.buyer m.currency m.amount
 deed (Some Settle) d o m x = moving (giver d m) (taker d m) (asset d m) (volume d m)
-deed (Some Free) d o m x = cond (holds d o) (releasing (giver d m) (asset d m) (volume d m)) no_change
+deed (Some Free) d o m x =
+    if has_blocked d o then releasing (giver d m) (asset d m) (volume d m) else no_change
 deed None d o m x = no_change
 
--- what an accepted instruction changes
+-- where an accepted instruction leads
 abbrev pub effect : Standing → Instruction → Standing
 effect s x =
     let k = kind_at x.kind in
@@ -197,7 +185,7 @@ effect s x =
     let m = s.terms x.trade in
     record {
       book = λ d. apply (s.book d) (deed k d o m x);
-      state = turned (after k) s.state x.trade;
+      state = states_after (state_after k) s.state x.trade;
       terms = terms_after (is_enter k) s.terms x;
     }
 
@@ -205,7 +193,8 @@ effect s x =
 abbrev pub step : Rulebook → Standing → Instruction → Standing
 step h s x = if_ok (answer h s x) (effect s x) s
 
--- the list, from the empty standing, is accepted one instruction after another and leads to s
+-- From the empty standing on, the rules accept the list's instructions one after another, and
+-- these lead to s.
 pub data Runs (h : Rulebook) : List Instruction → Standing → Type 0 where
   start : Runs h [] empty
   more :
@@ -213,5 +202,5 @@ pub data Runs (h : Rulebook) : List Instruction → Standing → Type 0 where
       → Runs h (xs ++ (x ∷ [])) (effect s x)
 
 -- some list of accepted instructions leads here
-abbrev pub Reached : Rulebook → Standing → Type 0
-Reached h s = (xs : List Instruction) × Runs h xs s
+abbrev pub IsReachable : Rulebook → Standing → Type 0
+IsReachable h s = (xs : List Instruction) × Runs h xs s

@@ -1,15 +1,16 @@
--- The table of states: which kind of instruction starts from which states and leads to which.
-use Rattle.std.specs.Prelude.{◌≡◌, ℕ, Bool, false, cond, ◌||◌, List, [], ◌∷◌, Some, None, Option, ◌==◌, ◌≢◌}
+-- The states of a trade: from which of them a kind of instruction starts, and to which it leads.
+use Rattle.std.specs.Prelude.{◌≡◌, ℕ, Bool, false, if◌then◌else◌, ◌||◌, List, [], ◌∷◌, Some, None, Option, ◌==◌, ◌≢◌}
 use Rattle.instruction.specs.declared.Kind.{Kind}
 use Rattle.instruction.specs.declared.Kind.TheVariants.{Issue, PayIn, Enter, Earmark, Fund, Settle, Free}
 use Rattle.instruction.specs.Kinds.{kind_at}
 use Rattle.rulebook.specs.declared.State.{State}
 use Rattle.rulebook.specs.declared.State.TheVariants.{Unentered, Entered, Earmarked, Funded, Settled, Freed}
 
--- what an instruction asks for: a kind, or none where its kind byte is unknown
+-- what an instruction asks for: a kind, or nothing where its kind byte is unknown
 abbrev pub Act : Type 0
 Act = Option Kind
 
+-- states are compared by these numbers
 abbrev pub rank : State → ℕ
 rank Unentered = 0
 rank Entered = 1
@@ -18,56 +19,57 @@ rank Funded = 3
 rank Settled = 4
 rank Freed = 5
 
-abbrev pub among : State → List State → Bool
-among o [] = false
-among o (p ∷ ps) = rank o == rank p || among o ps
+abbrev pub is_among : State → List State → Bool
+is_among o [] = false
+is_among o (p ∷ ps) = rank o == rank p || is_among o ps
 
--- the states of a trade before each kind
-abbrev pub before : Act → List State
-before (Some Issue) = []
-before (Some PayIn) = []
-before (Some Enter) = Unentered ∷ []
-before (Some Earmark) = Entered ∷ []
-before (Some Fund) = Earmarked ∷ []
-before (Some Settle) = Funded ∷ []
-before (Some Free) = Entered ∷ Earmarked ∷ Funded ∷ []
-before None = []
+-- the states from which an instruction of each kind may start
+abbrev pub states_before : Act → List State
+states_before (Some Issue) = []
+states_before (Some PayIn) = []
+states_before (Some Enter) = Unentered ∷ []
+states_before (Some Earmark) = Entered ∷ []
+states_before (Some Fund) = Earmarked ∷ []
+states_before (Some Settle) = Funded ∷ []
+states_before (Some Free) = Entered ∷ Earmarked ∷ Funded ∷ []
+states_before None = []
 
--- and after, if the kind is one of a trade
-abbrev pub after : Act → Option State
-after (Some Issue) = None
-after (Some PayIn) = None
-after (Some Enter) = Some Entered
-after (Some Earmark) = Some Earmarked
-after (Some Fund) = Some Funded
-after (Some Settle) = Some Settled
-after (Some Free) = Some Freed
-after None = None
+-- the state to which it leads; an Issue and a Pay in are about no trade
+abbrev pub state_after : Act → Option State
+state_after (Some Issue) = None
+state_after (Some PayIn) = None
+state_after (Some Enter) = Some Entered
+state_after (Some Earmark) = Some Earmarked
+state_after (Some Fund) = Some Funded
+state_after (Some Settle) = Some Settled
+state_after (Some Free) = Some Freed
+state_after None = None
 
--- a kind is accepted from this state
-abbrev pub starts : Act → State → Bool
-starts k o = among o (before k)
+-- an instruction of this kind may start from this state
+abbrev pub may_start : Act → State → Bool
+may_start k o = is_among o (states_before k)
 
 -- a trade's state and the kind together decide the next state
-abbrev pub next : Act → State → Option State
-next k o = cond (starts k o) (after k) None
+abbrev pub next_state : Act → State → Option State
+next_state k o = if may_start k o then state_after k else None
 
--- The same table in words of its own, by the kind byte: these steps, and no others.
-pub data Steps : State → ℕ → State → Type 0 where
-  enters : Steps Unentered 3 Entered
-  earmarks : Steps Entered 4 Earmarked
-  funds : Steps Earmarked 5 Funded
-  settles : Steps Funded 6 Settled
-  freed-entered : Steps Entered 7 Freed
-  freed-earmarked : Steps Earmarked 7 Freed
-  freed-funded : Steps Funded 7 Freed
+-- The steps of a trade, by the kind byte and in words of their own: these, and no others.
+pub data TradeSteps : State → ℕ → State → Type 0 where
+  enters : TradeSteps Unentered 3 Entered
+  earmarks : TradeSteps Entered 4 Earmarked
+  funds : TradeSteps Earmarked 5 Funded
+  settles : TradeSteps Funded 6 Settled
+  freed-entered : TradeSteps Entered 7 Freed
+  freed-earmarked : TradeSteps Earmarked 7 Freed
+  freed-funded : TradeSteps Funded 7 Freed
 
+-- The table has these steps, and none that leads back.
 pub record StateTable : Type 0 where
-  -- each step is one of the words
-  pub only : (o p : State) (n : ℕ) → next (kind_at n) o ≡ Some p → Steps o n p
-  -- each of the words is a step
-  pub each : (o p : State) (n : ℕ) → Steps o n p → next (kind_at n) o ≡ Some p
-  -- a trade that was entered is never unentered again, and a settled or freed one stays so
-  pub no-return : (o : State) (n : ℕ) → next (kind_at n) o ≢ Some Unentered
-  pub settled-stays : (p : State) (n : ℕ) → next (kind_at n) Settled ≢ Some p
-  pub freed-stays : (p : State) (n : ℕ) → next (kind_at n) Freed ≢ Some p
+  -- where the table leads on, that is one of the steps
+  pub only : (o p : State) (n : ℕ) → next_state (kind_at n) o ≡ Some p → TradeSteps o n p
+  -- each of the steps is in the table
+  pub each : (o p : State) (n : ℕ) → TradeSteps o n p → next_state (kind_at n) o ≡ Some p
+  -- no trade becomes unentered again, and a settled or a freed one stays so
+  pub no-return : (o : State) (n : ℕ) → next_state (kind_at n) o ≢ Some Unentered
+  pub settled-stays : (p : State) (n : ℕ) → next_state (kind_at n) Settled ≢ Some p
+  pub freed-stays : (p : State) (n : ℕ) → next_state (kind_at n) Freed ≢ Some p

@@ -1,5 +1,4 @@
--- The sums of the law, by the fields alone: credits over a list of instructions; given, received and
--- held over all trades.
+-- The sums of the law: what an account was credited, gave and received, and what its trades hold.
 use Rattle.std.specs.Prelude.{ℕ, if◌then◌else◌, List, sum_by, ◌==◌}
 use Rattle.std.specs.List.{range_with_len}
 use Rattle.instruction.specs.declared.Instruction.{Instruction}
@@ -16,42 +15,44 @@ trades = range_with_len 0 TRADES
 
 -- Sums for one account and one item of a side's book. An item of the cash book is a currency.
 module _ (account item : ℕ) where
-  -- a quantity of the item I of the account A counts if they are these
-  abbrev pub counted : ℕ → ℕ → ℕ → ℕ
-  counted A I quantity = if A == account then (if I == item then quantity else 0) else 0
+  -- what counts of a quantity of item I on account A: all of it, if these are the two, else nothing
+  abbrev pub share : ℕ → ℕ → ℕ → ℕ
+  share A I quantity = if A == account then (if I == item then quantity else 0) else 0
 
-  -- Issue credits the register, and Pay in the cash book
+  -- an instruction's credit: an Issue (kind 1) credits the register, a Pay in (kind 2) the cash book
   abbrev pub credit : Side → Instruction → ℕ
-  credit securities x = if x.kind == 1 then counted x.account x.item x.quantity else 0
-  credit cash x = if x.kind == 2 then counted x.account x.currency x.amount else 0
+  credit securities x = if x.kind == 1 then share x.account x.item x.quantity else 0
+  credit cash x = if x.kind == 2 then share x.account x.currency x.amount else 0
 
-  -- in a settled trade the seller gave the quantity of the item, the buyer the amount of the currency
+  -- what the account gave in a settled trade: the seller the quantity, the buyer the amount
   abbrev pub gift : Side → State → Terms → ℕ
-  gift securities Settled m = counted m.seller m.item m.quantity
-  gift cash Settled m = counted m.buyer m.currency m.amount
+  gift securities Settled m = share m.seller m.item m.quantity
+  gift cash Settled m = share m.buyer m.currency m.amount
   gift d o m = 0
 
-  -- and each received what the other gave
+  -- what it received in one: the buyer the quantity, the seller the amount
   abbrev pub receipt : Side → State → Terms → ℕ
-  receipt securities Settled m = counted m.buyer m.item m.quantity
-  receipt cash Settled m = counted m.seller m.currency m.amount
+  receipt securities Settled m = share m.buyer m.item m.quantity
+  receipt cash Settled m = share m.seller m.currency m.amount
   receipt d o m = 0
 
-  -- an earmarked trade holds the seller's quantity, a funded one the buyer's amount too
+  -- what an open trade holds blocked: earmarked, the seller's quantity; funded, the buyer's amount too
   abbrev pub hold : Side → State → Terms → ℕ
-  hold securities Earmarked m = counted m.seller m.item m.quantity
-  hold securities Funded m = counted m.seller m.item m.quantity
-  hold cash Funded m = counted m.buyer m.currency m.amount
+  hold securities Earmarked m = share m.seller m.item m.quantity
+  hold securities Funded m = share m.seller m.item m.quantity
+  hold cash Funded m = share m.buyer m.currency m.amount
   hold d o m = 0
 
+  -- over a list of instructions
   abbrev pub credits : Side → List Instruction → ℕ
   credits d xs = sum_by (λ x. credit d x) xs
 
-  abbrev pub given : Side → Standing → ℕ
-  given d s = sum_by (λ t. gift d (s.state t) (s.terms t)) trades
+  -- over all trades, each in the state and on the terms in which it stands
+  abbrev pub gifts : Side → Standing → ℕ
+  gifts d s = sum_by (λ t. gift d (s.state t) (s.terms t)) trades
 
-  abbrev pub received : Side → Standing → ℕ
-  received d s = sum_by (λ t. receipt d (s.state t) (s.terms t)) trades
+  abbrev pub receipts : Side → Standing → ℕ
+  receipts d s = sum_by (λ t. receipt d (s.state t) (s.terms t)) trades
 
-  abbrev pub held : Side → Standing → ℕ
-  held d s = sum_by (λ t. hold d (s.state t) (s.terms t)) trades
+  abbrev pub holds : Side → Standing → ℕ
+  holds d s = sum_by (λ t. hold d (s.state t) (s.terms t)) trades

@@ -1,11 +1,13 @@
--- The terms of a trade, and its two sides: securities against cash. Assumes nothing.
+-- The terms of a trade, and its two sides: securities against cash.
 use Rattle.std.specs.Prelude.{ℕ}
 use Rattle.instruction.specs.declared.Instruction.{Instruction}
 use Rattle.rulebook.specs.declared.Terms.{Terms}
 
+-- the terms of a trade that was never entered
 abbrev pub no_terms : Terms
 no_terms = record { seller = 0; buyer = 0; item = 0; currency = 0; quantity = 0; amount = 0 }
 
+-- the terms that an Enter states: its account is the seller, its counterparty the buyer
 abbrev pub terms_of : Instruction → Terms
 terms_of x = record {
   seller = x.account;
@@ -16,10 +18,11 @@ terms_of x = record {
   amount = x.amount;
 }
 
+-- Securities stand in the register, cash in the cash book.
 pub data Side : Type 0 where
   securities cash : Side
 
--- the account that gives, and the one that takes
+-- the account that gives on this side, and the one that takes
 abbrev pub giver : Side → Terms → ℕ
 giver securities m = m.seller
 giver cash m = m.buyer

@@ -1,9 +1,9 @@
-use Rattle.std.proofs.Common.{refl, ◌∙◌}
-use Rattle.ledger.proofs.Views.{reached-empty, stands}
+use Rattle.std.proofs.Common.{refl, ◌∙◌, rules}
+use Rattle.ledger.proofs.Views.{reachable-empty, stands}
 use Rattle.ledger.proofs.Ledger.clear.Goals as goal
 
 pub invariant_of-self : goal.invariant_of-self
-invariant_of-self g c = reached-empty _ _ c.clear.ensures
+invariant_of-self g c = search (rules, reachable-empty)
 
 pub returns : goal.returns
 returns g c =

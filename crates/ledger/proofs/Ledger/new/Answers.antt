@@ -1,9 +1,9 @@
-use Rattle.std.proofs.Common.{refl, ◌∙◌}
-use Rattle.ledger.proofs.Views.{reached-empty, stands}
+use Rattle.std.proofs.Common.{refl, ◌∙◌, rules}
+use Rattle.ledger.proofs.Views.{reachable-empty, stands}
 use Rattle.ledger.proofs.Ledger.new.Goals as goal
 
 pub invariant_of-result : goal.invariant_of-result
-invariant_of-result g c = reached-empty _ _ c.clear.ensures
+invariant_of-result g c = search (rules, reachable-empty)
 
 pub returns : goal.returns
 returns g c =
