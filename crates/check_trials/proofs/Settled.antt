@@ -9,9 +9,9 @@ use Rattle.rulebook.specs.Terms.{Side, securities, cash}
 use Rattle.rulebook.specs.Rules.{Rulebook, Standing, step}
 use Rattle.rulebook.specs.Law.{FollowsRules}
 use Rattle.check_trials.specs.declared.Settlement.{Settlement}
-use Rattle.check_trials.specs.ByHand.{trade_7, after_all, EightAmounts, eight_amounts, AnsweredByHand}
+use Rattle.check_trials.specs.ByHand.{trade_7, standing_after, HasEightAmounts, eight_amounts, AnswersByHand}
 
-pub settled : EightAmounts (after_all trade_7)
+pub settled : HasEightAmounts (standing_after trade_7)
 unfolding sum_below
 settled = record {
   seller-item-free = refl;
@@ -24,9 +24,9 @@ settled = record {
   buyer-currency-blocked = refl;
 }
 
-pub answered-by-hand : AnsweredByHand
+pub answers-by-hand : AnswersByHand
 unfolding sum_below
-answered-by-hand = record {
+answers-by-hand = record {
   unknown-kind = refl;
   stray-field = refl;
   no-trade = refl;
@@ -46,8 +46,8 @@ pub led : {h : Rulebook} {s t u : Standing} {x y : Instruction} → FollowsRules
 led {h} {s} {t} {u} {x} {y} g e f = g.after ∙ ap (λ s. step h s x) e ∙ ap (λ x. step h u x) f
 
 -- what a question answers after the settlement
-pub answered : (d : Side) (a i : ℕ) (s : Standing) {r : Result Holding Refusal} → s ≡ after_all trade_7
-    → r ≡ Ok (holding_of (s.book d) a i) → r ≡ Ok (holding_of ((after_all trade_7).book d) a i)
+pub answered : (d : Side) (a i : ℕ) (s : Standing) {r : Result Holding Refusal} → s ≡ standing_after trade_7
+    → r ≡ Ok (holding_of (s.book d) a i) → r ≡ Ok (holding_of ((standing_after trade_7).book d) a i)
 answered d a i s e f = f ∙ ap (λ (s : Standing). Ok (holding_of (s.book d) a i)) e
 
 -- the eight amounts as the code answers them
@@ -59,7 +59,7 @@ answered_after s = record {
   buyer_currency = holding_of (s.book cash) 2 4;
 }
 
-pub eight : answered_after (after_all trade_7) ≡ eight_amounts
+pub eight : answered_after (standing_after trade_7) ≡ eight_amounts
 eight = λ k. record {
   seller_item = record { free = settled.seller-item-free k; blocked = settled.seller-item-blocked k };
   buyer_item = record { free = settled.buyer-item-free k; blocked = settled.buyer-item-blocked k };

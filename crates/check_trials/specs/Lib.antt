@@ -1,2 +1,2 @@
 pub mod ByHand
-pub mod Marked
+pub mod Proved

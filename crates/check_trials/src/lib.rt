@@ -1,4 +1,8 @@
-// Trials with known results, made on the engine's own books, ledger, instructions and marks.
+//! Trials with known results, made on the engine's own books, ledger, instructions and marks.
+//!
+//! This crate checks; nothing is built on it. `proved_trials` promises the results: `outcomes` are those
+//! that the code gives, and `rows` states each trial as a theorem about the rules, for every account and
+//! item where that makes sense. All expected results were worked out by hand from the rules.
 #![tactic(auto)]
 
 ghost use Rattle.std.specs.Prelude.{◌≡◌};
@@ -6,38 +10,53 @@ ghost use Rattle.refusals.specs.Numbers.{answer_number};
 ghost use Rattle.book.specs.Holdings.{nothing, crediting};
 ghost use Rattle.book.specs.Rulings.{ruling};
 ghost use Rattle.lots.specs.Owners.{lots_kind};
-ghost use Rattle.check_trials.specs.Marked.{earmark7, expected, MarkedTrials};
+ghost use Rattle.check_trials.specs.Proved.{earmark_of_trade_7, expected_outcomes, ProvedTrials};
 ghost use Rattle.check_trials.specs.ByHand.{eight_amounts};
 
 use balances::Balances;
 use book::{Book, Holding};
+use device::BLOCK_SIZE;
 use instruction::{Instruction, Kind};
 use journal::{is_good_mark, mark_block};
 use ledger::Ledger;
 use lots::Lots;
 use refusals::{answer_number, fault_number};
 
-// What the seller and the buyer of a settled trade have of its item and of its currency.
+/// What the seller and the buyer of a settled trade have of its item and of its currency.
 #[derive(Clone, Copy, Debug, PartialEq, Eq)]
 pub struct Settlement {
+    /// The seller's amounts of the item.
     pub seller_item: Holding,
+    /// The buyer's amounts of the item.
     pub buyer_item: Holding,
+    /// The seller's amounts of the currency.
     pub seller_currency: Holding,
+    /// The buyer's amounts of the currency.
     pub buyer_currency: Holding,
 }
 
-// The answers by their numbers, as the known results are given.
-#[derive(Drop)]
+/// What the trials gave. An answer is a number: 0, or the refusal's.
+#[derive(Clone, Copy, Debug, PartialEq, Eq)]
 pub struct Outcomes {
+    /// To block 1 in a fresh book of balances.
     pub block_of_nothing: u8,
+    /// To credit a fresh book of balances with an item's whole ceiling.
     pub credit_to_ceiling: u8,
+    /// To credit 1 more.
     pub credit_past_ceiling: u8,
+    /// To credit a fresh book of lots with a lot.
     pub credit_of_a_lot: u8,
+    /// To credit a fresh book of lots with 2 of one lot.
     pub credit_of_two: u8,
+    /// An Earmark of trade 7.
     pub earmark_bytes: [u8; 32],
+    /// To enter a trade with one account as seller and buyer, which does not exist either.
     pub same_parties: u8,
+    /// The amounts after a trade was settled.
     pub settlement: Settlement,
-    pub first_mark: [u8; 256],
+    /// The mark of entry 0.
+    pub first_mark: [u8; BLOCK_SIZE],
+    /// Whether a block of zeros is a good mark of entry 0.
     pub zeros_are_a_mark: bool,
 }
 
@@ -67,7 +86,7 @@ fn credit_of(quantity: u64) -> u8
 }
 
 fn earmark_bytes() -> [u8; 32]
-    ensures { result ≡ earmark7 }
+    ensures { result ≡ earmark_of_trade_7 }
 {
     Instruction::on_trade(Kind::Earmark, 7).to_bytes()
 }
@@ -87,7 +106,7 @@ fn same_parties() -> u8
     fault_number(ledger.answer_to(&x))
 }
 
-// Account 1 sells 100 of item 3 to account 2 for 2,000 of currency 4: from the Issue and the Pay in to
+// Account 1 sells 100 of item 3 to account 2 for 2,000 of currency 4, from the Issue and the Pay in to
 // the Settle.
 fn settle_a_trade() -> Settlement
     ensures { result ≡ eight_amounts }
@@ -129,10 +148,11 @@ fn settle_a_trade() -> Settlement
     }
 }
 
-// Makes each trial that a fresh book, ledger, instruction or mark can show, and stands for the theorem of all of them.
-pub fn marked_trials() -> Outcomes
-    ensures outcomes { result ≡ expected }
-    ensures rows { MarkedTrials }
+/// Makes each trial that needs no more than a fresh book, ledger, instruction or mark. Its contract has
+/// the results of all of them.
+pub fn proved_trials() -> Outcomes
+    ensures outcomes { result ≡ expected_outcomes }
+    ensures rows { ProvedTrials }
 {
     let (credit_to_ceiling, credit_past_ceiling) = credits_at_ceiling();
     Outcomes {
@@ -145,6 +165,6 @@ pub fn marked_trials() -> Outcomes
         same_parties: same_parties(),
         settlement: settle_a_trade(),
         first_mark: mark_block(0),
-        zeros_are_a_mark: is_good_mark(&[0; 256], 0),
+        zeros_are_a_mark: is_good_mark(&[0; BLOCK_SIZE], 0),
     }
 }

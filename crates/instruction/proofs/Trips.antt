@@ -1,4 +1,4 @@
--- The two round trips of an instruction. Assumes nothing.
+-- Writing and reading an instruction undo each other.
 use Rattle.std.proofs.Common.{◌≡◌, ℕ, zero, suc, ◌+◌, ◌/◌, ◌%◌, ◌^◌, ◌<◌, Bool, true, false, cond, ◌&&◌, eqb, List, ◌∷◌, ◌++◌, length, get_or, Ok, Err, sym, refl, ap, ◌∙◌, subst, pow-suc, arith}
 use Rattle.std.proofs.Math.Nat.{div-div-eq-div-mul, div-one, mul_comm}
 use Rattle.std.proofs.lemmas.Bool.{eqb-true, and_parts}
@@ -41,7 +41,7 @@ is-instruction bs e =
     let r = and_parts (eqb (get_or bs 10 0) 0) (eqb (get_or bs 11 0) 0) q.1 in
     record { long = eqb-true _ _ p.0; one = eqb-true _ _ q.0; ten = eqb-true _ _ r.0; eleven = eqb-true _ _ r.1 }
 
--- a number written at a place lies there
+-- the bytes of a number that was written
 byte-at : (w n k : ℕ) → k < w → get_or (le_bytes w n) k 0 ≡ (n / (2 ^ 8) ^ k) % 2 ^ 8
 byte-at zero n k l = absurd (omega arith)
 byte-at (suc w) n zero l = ap (λ m. m % 256) (sym (div-one n))

@@ -1,8 +1,9 @@
--- An instruction as 32 bytes, both ways. Assumes nothing.
-use Rattle.std.specs.Prelude.{◌≡◌, ℕ, ◌+◌, ◌/◌, ◌%◌, ◌^◌, ◌<◌, Bool, cond, ◌&&◌, List, ◌∷◌, ◌++◌, length, Ok, Err, Result, ◌==◌, slice_index, slice_index_or}
+-- An instruction as bytes, both ways.
+use Rattle.std.specs.Prelude.{◌≡◌, ℕ, ◌+◌, ◌/◌, ◌%◌, ◌^◌, ◌<◌, Bool, if◌then◌else◌, ◌&&◌, List, ◌∷◌, ◌++◌, length, Ok, Err, Result, ◌==◌, slice_index, slice_index_or}
 use Rattle.little_endian.specs.Little.{le_number, le_bytes, bytes_from}
 use Rattle.refusals.specs.declared.Refusal.{Refusal}
 use Rattle.refusals.specs.Numbers.{numbered, number_of}
+use Rattle.instruction.specs.declared.TheConstants.{INSTRUCTION_SIZE}
 use Rattle.instruction.specs.declared.Kind.{Kind}
 use Rattle.instruction.specs.declared.Instruction.{Instruction}
 use Rattle.instruction.specs.Kinds.{code_of}
@@ -23,7 +24,7 @@ on_trade k t = record {
   amount = 0;
 }
 
--- and one with 0 in the trade too
+-- an instruction of a kind with 0 in each other field
 abbrev pub of_kind : Kind → Instruction
 of_kind k = on_trade k 0
 
@@ -57,15 +58,18 @@ fields_in bs = record {
   amount = field_in Amount bs;
 }
 
+-- the bytes that no field has are 0
 abbrev pub unused_zero : List ℕ → Bool
 unused_zero bs = slice_index bs 1 == 0 && (slice_index bs 10 == 0 && slice_index bs 11 == 0)
 
+-- what is answered to bytes: the instruction that they hold, or 46
 abbrev pub instruction_in : List ℕ → Result Instruction Refusal
-instruction_in bs = cond (length bs == 32 && unused_zero bs) (Ok (fields_in bs)) (Err (numbered 46))
+instruction_in bs =
+    if length bs == INSTRUCTION_SIZE && unused_zero bs then Ok (fields_in bs) else Err (numbered 46)
 
--- the strings that are instructions: 32 bytes, those at 1, 10 and 11 zero
+-- the bytes that are instructions: so many, with those at 1, 10 and 11 zero
 pub record IsInstruction (bs : List ℕ) : Type 0 where
-  pub long : length bs ≡ 32
+  pub long : length bs ≡ INSTRUCTION_SIZE
   pub one : slice_index_or bs 1 0 ≡ 0
   pub ten : slice_index_or bs 10 0 ≡ 0
   pub eleven : slice_index_or bs 11 0 ≡ 0
@@ -74,7 +78,7 @@ pub record IsInstruction (bs : List ℕ) : Type 0 where
 abbrev pub Lies : List ℕ → ℕ → ℕ → ℕ → Type 0
 Lies bs at w n = (k : ℕ) → k < w → slice_index_or bs (at + k) 0 ≡ (n / (2 ^ 8) ^ k) % 2 ^ 8
 
--- The layout, place by place, in words of its own.
+-- The layout, place by place: the law above `bytes_of`, which shares no place or width with it.
 pub record LaidOut (bs : List ℕ) (i : Instruction) : Type 0 where
   pub whole : IsInstruction bs
   pub kind : slice_index_or bs 0 0 ≡ i.kind
@@ -86,12 +90,12 @@ pub record LaidOut (bs : List ℕ) (i : Instruction) : Type 0 where
   pub quantity : Lies bs 16 8 i.quantity
   pub amount : Lies bs 24 8 i.amount
 
--- what reading answers: the one instruction that has these bytes, or that there is none
+-- what `from_bytes` answers: the one instruction that has these bytes, or that there is none
 abbrev pub Reads : List ℕ → Result Instruction Refusal → Type 0
 Reads bs (Ok i) = LaidOut bs i × (bytes_of i ≡ bs)
 Reads bs (Err r) = (number_of r ≡ 46) × (IsInstruction bs → ⊥)
 
--- each field fits its width, as every instruction that the code holds does
+-- each field fits its type, as in every instruction of the code
 pub record Fit (i : Instruction) : Type 0 where
   pub kind : i.kind < 2 ^ 8
   pub account : i.account < 2 ^ 16

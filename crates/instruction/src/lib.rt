@@ -1,27 +1,41 @@
-// An instruction to the depository, and its 32 bytes.
+//! An instruction to the depository: its kind, its fields, and its bytes.
+//!
+//! Instructions and their bytes match one to one: `to_bytes` promises it by its clauses `laid_out` and
+//! `read_back`, `from_bytes` by `exact`. Which fields a kind uses is stated once, by `Kind::uses`; the clause
+//! `law` of `has_stray_field` says it again, field by field.
 #![tactic(auto)]
 
-ghost use Rattle.std.specs.Prelude.{◌≡◌, ◌+◌, ◌≤◌, ◌↔◌, false, length, Ok};
+ghost use Rattle.std.specs.Prelude.{◌≡◌, ◌+◌, ◌≤◌, length, Ok};
 ghost use Rattle.instruction.specs.Kinds.{code_of, Decodes, KindsAndCodes};
-ghost use Rattle.instruction.specs.Fields.{width_of, most_of, value_of, uses, has_stray, StrayLaw};
+ghost use Rattle.instruction.specs.Fields.{value_of, uses, has_stray, StrayLaw};
 ghost use Rattle.instruction.specs.Layout.{of_kind, on_trade, bytes_of, instruction_in, number_at, LaidOut, Reads};
 
 use little_endian::LittleEndian;
 use refusals::Refusal;
 
-// What an instruction asks for.
+/// The number of bytes of an instruction.
+pub const INSTRUCTION_SIZE: usize = 32;
+
+/// What an instruction asks for. A variant's value is its kind byte, 1 to 7.
 #[derive(Clone, Copy, Debug, PartialEq, Eq)]
 pub enum Kind {
+    /// Credits an account with a quantity of an item of securities.
     Issue = 1,
+    /// Credits an account with an amount of a currency.
     PayIn,
+    /// Enters a trade with its parties and terms.
     Enter,
+    /// Blocks the seller's securities.
     Earmark,
+    /// Blocks the buyer's cash.
     Fund,
+    /// Delivers the securities against the cash.
     Settle,
+    /// Ends a trade that is not settled, and frees what it has blocked.
     Free,
 }
 
-// The kind byte.
+/// The kind byte.
 impl From<Kind> for u8 {
     ghost from_gives = { λ kind code. code ≡ code_of kind };
 
@@ -33,7 +47,11 @@ impl From<Kind> for u8 {
     }
 }
 
-// The kind that a kind byte means, if any does.
+/// The kind that a kind byte means.
+///
+/// # Errors
+///
+/// `UnknownKind` if the byte is not 1 to 7.
 impl TryFrom<u8> for Kind {
     type Error = Refusal;
 
@@ -56,12 +74,19 @@ impl TryFrom<u8> for Kind {
 /// A field of an instruction other than its kind.
 #[derive(Clone, Copy, Debug, PartialEq, Eq)]
 pub enum Field {
+    /// The account that is credited, or the seller.
     Account,
+    /// The buyer.
     Counterparty,
+    /// An item of securities.
     Item,
+    /// An item of cash.
     Currency,
+    /// A trade's number.
     Trade,
+    /// So much of the item.
     Quantity,
+    /// So much of the currency.
     Amount,
 }
 
@@ -92,22 +117,29 @@ impl Kind {
     }
 }
 
-// The fields as they come, whether or not the kind is known or uses them: the rules judge that, so the kind is its byte.
-// In an Enter `account` is the seller and `counterparty` the buyer.
+/// An instruction as it comes in. The rules judge whether its kind is known and its fields are in range.
 #[derive(Clone, Copy, Debug, Default, PartialEq, Eq)]
 pub struct Instruction {
+    /// The kind byte, which may mean no kind.
     pub kind: u8,
+    /// The account that is credited, or the seller.
     pub account: u16,
+    /// The buyer.
     pub counterparty: u16,
+    /// The number of an item of securities.
     pub item: u16,
+    /// The number of a currency.
     pub currency: u16,
+    /// The number of a trade.
     pub trade: u32,
+    /// So much of the item.
     pub quantity: u64,
+    /// So much of the currency.
     pub amount: u64,
 }
 
 impl Instruction {
-    // An instruction of the kind with 0 in each other field.
+    /// An instruction of the kind with 0 in each other field.
     pub fn of_kind(kind: Kind) -> Instruction
         ensures { result ≡ of_kind kind }
     {
@@ -117,7 +149,7 @@ impl Instruction {
         }
     }
 
-    // An instruction of the kind that names a trade, with 0 in each other field.
+    /// An instruction of the kind that names a trade, with 0 in each other field.
     pub fn on_trade(kind: Kind, trade: u32) -> Instruction
         ensures { result ≡ on_trade kind trade }
     {
@@ -153,8 +185,8 @@ impl Instruction {
             .any(|field| !kind.uses(*field) && self.value_of(*field) != 0)
     }
 
-    // This way and back are methods, by names that say bytes, as of the library's numbers. The array shows the layout.
-    pub fn to_bytes(self) -> [u8; 32]
+    /// The instruction's bytes: docs/LAYOUTS.md has the layout.
+    pub fn to_bytes(self) -> [u8; INSTRUCTION_SIZE]
         ensures value { result ≡ bytes_of self }
         ensures laid_out { LaidOut result self }
         ensures read_back { instruction_in result ≡ Ok self }
@@ -172,12 +204,16 @@ impl Instruction {
         ]
     }
 
-    // Any bytes: those of no instruction are malformed.
+    /// The instruction that the bytes are.
+    ///
+    /// # Errors
+    ///
+    /// `Malformed` if the bytes are not `INSTRUCTION_SIZE` many, or one that no field has is not 0.
     pub fn from_bytes(bytes: &[u8]) -> Result<Instruction, Refusal>
         ensures value { result ≡ instruction_in bytes.now }
         ensures exact { Reads bytes.now result }
     {
-        if bytes.len() != 32 {
+        if bytes.len() != INSTRUCTION_SIZE {
             return Err(Refusal::Malformed);
         }
         if bytes[1] != 0 || bytes[10] != 0 || bytes[11] != 0 {
@@ -196,7 +232,7 @@ impl Instruction {
     }
 }
 
-// The number in the N bytes from a place on.
+// The number in the N bytes from place `at` on.
 fn number_at<T: LittleEndian<N>, const N: usize>(b: &[u8], at: usize) -> T
     requires { at + N ≤ length b.now }
     ensures { T.value result ≡ number_at at N b.now }

@@ -55,10 +55,12 @@ module _ (rows : List Trade) (x : Instruction) (whole : length rows ≡ 128) whe
 
   -- the trade starts, and its new state is put
   moved : (k : Act) (p : State) → state_after k ≡ Some p → may_start k o ≡ true
-      → rows_after k x rows ≡ rows_with rows x.trade (record { state = p; terms = cond (is_enter k) (terms_of x) (terms_at rows x.trade) })
+      → rows_after k x rows ≡ rows_with rows x.trade
+      (record { state = p; terms = cond (is_enter k) (terms_of x) (terms_at rows x.trade) })
   moved k p e w = let n : next_state k o ≡ Some p = next-after k o w ∙ e in rw n
 
-  keeps-terms : (k : Act) (p : State) → state_after k ≡ Some p → is_enter k ≡ false → may_start k o ≡ true → x.trade < 128 → Turned k x rows (rows_after k x rows)
+  keeps-terms : (k : Act) (p : State) → state_after k ≡ Some p → is_enter k ≡ false → may_start k o ≡ true
+      → x.trade < 128 → Turned k x rows (rows_after k x rows)
   keeps-terms k p e i w l =
       let v : Trade = record { state = p; terms = cond (is_enter k) (terms_of x) (terms_at rows x.trade) } in
       let q : v.terms ≡ terms_at rows x.trade = cond-false (is_enter k) (terms_of x) (terms_at rows x.trade) i in
@@ -68,7 +70,8 @@ module _ (rows : List Trade) (x : Instruction) (whole : length rows ≡ 128) whe
             ∙ same-terms (terms_at rows) x.trade u ∙ ap (λ b. terms_after b (terms_at rows) x u) (sym i);
       })
 
-  pub turned-rows : (h : Rulebook) (k : Act) (m : Terms) (s : Standing) → first_refusal (all_checks h k o m s x) ≡ Ok tt → Turned k x rows (rows_after k x rows)
+  pub turned-rows : (h : Rulebook) (k : Act) (m : Terms) (s : Standing)
+      → first_refusal (all_checks h k o m s x) ≡ Ok tt → Turned k x rows (rows_after k x rows)
   turned-rows h (Some Issue) m s p = record { states = λ u. refl; terms = λ u. refl }
   turned-rows h (Some PayIn) m s p = record { states = λ u. refl; terms = λ u. refl }
   turned-rows h None m s p = record { states = λ u. refl; terms = λ u. refl }
@@ -86,20 +89,26 @@ pub accepts : (x : Instruction) (r : Result (Unit {0}) Refusal) → with_trade x
 accepts x (Ok u) e = refl
 accepts x (Err r) e = cc
 
-unmoved : (s t : Standing) (x : Instruction) (f : Fault) (r : Result (Unit {0}) Refusal) → with_trade x r ≡ Err f → if_ok r t s ≡ s
+unmoved : (s t : Standing) (x : Instruction) (f : Fault) (r : Result (Unit {0}) Refusal) → with_trade x r ≡ Err f
+    → if_ok r t s ≡ s
 unmoved s t x f (Ok u) e = cc
 unmoved s t x f (Err r) e = refl
 
 -- what giving an instruction leaves, where the rules refuse it
-pub follows-refused : (h : Rulebook) (s : Standing) (x : Instruction) (f : Fault) → fault_answer h s x ≡ Err f → IsReachable h s → FollowsRules h s s x
+pub follows-refused : (h : Rulebook) (s : Standing) (x : Instruction) (f : Fault) → fault_answer h s x ≡ Err f
+    → IsReachable h s → FollowsRules h s s x
 follows-refused h s x f e z = follows-rules h s s x z (sym (unmoved s (effect s x) x f (answer h s x) e))
 
 -- and where they accept it: what carrying out leaves is what the rules say
-pub follows-carried : {R C : Type 0} (r : book.Ghosts R) (c : book.Ghosts C) (p q : Parts R C) (x : Instruction) (k : Act)
-    → kind_at x.kind ≡ k → fault_answer (rulebook_of r.book_kind c.book_kind) (standing_in r c p) x ≡ Ok tt → IsReachable (rulebook_of r.book_kind c.book_kind) (standing_in r c p)
-    → r.holdings q.register ≡ book_after r.book_kind securities k x (trade_at p.trades.rows x.trade) (r.holdings p.register)
+pub follows-carried : {R C : Type 0} (r : book.Ghosts R) (c : book.Ghosts C) (p q : Parts R C) (x : Instruction)
+    (k : Act)
+    → kind_at x.kind ≡ k → fault_answer (rulebook_of r.book_kind c.book_kind) (standing_in r c p) x ≡ Ok tt
+    → IsReachable (rulebook_of r.book_kind c.book_kind) (standing_in r c p)
+    → r.holdings q.register ≡ book_after r.book_kind securities k x (trade_at p.trades.rows x.trade)
+    (r.holdings p.register)
     → c.holdings q.cash ≡ book_after c.book_kind cash k x (trade_at p.trades.rows x.trade) (c.holdings p.cash)
-    → q.trades.rows ≡ rows_after k x p.trades.rows → FollowsRules (rulebook_of r.book_kind c.book_kind) (standing_in r c p) (standing_in r c q) x
+    → q.trades.rows ≡ rows_after k x p.trades.rows
+    → FollowsRules (rulebook_of r.book_kind c.book_kind) (standing_in r c p) (standing_in r c q) x
 follows-carried r c p q x k is v (xs, run) er ec et =
     let h = rulebook_of r.book_kind c.book_kind in
     let s = standing_in r c p in
@@ -109,9 +118,13 @@ follows-carried r c p q x k is v (xs, run) er ec et =
     let takes = books-accept h xs s x run ok in
     let tr = turned-rows rows x p.trades.all_rows h k trade.terms s (subst (λ k. answer_as h k s x ≡ Ok tt) is ok) in
     let done : (d : Side) → book_after (h.book_kind d) d k x trade (s.book d) ≡ (effect s x).book d = λ d.
-    ap (λ k. book_after (h.book_kind d) d k x trade (s.book d)) (sym is) ∙ sym (outcome-ok (h.book_kind d) (s.book d) (deed (kind_at x.kind) d trade.state trade.terms x) (sym (takes d))) in
+    ap (λ k. book_after (h.book_kind d) d k x trade (s.book d)) (sym is)
+    ∙ sym (outcome-ok (h.book_kind d) (s.book d) (deed (kind_at x.kind) d trade.state trade.terms x)
+    (sym (takes d))) in
     let leads : standing_in r c q ≡ effect s x =
-    standing-same (r.holdings q.register) (c.holdings q.cash) q.trades.rows (effect s x) (er ∙ done securities) (ec ∙ done cash)
-    (λ u. ap (λ z. state_at z u) et ∙ tr.states u ∙ ap (λ k. states_after (state_after k) (state_at rows) x.trade u) (sym is))
+    standing-same (r.holdings q.register) (c.holdings q.cash) q.trades.rows (effect s x) (er ∙ done securities)
+    (ec ∙ done cash)
+    (λ u. ap (λ z. state_at z u) et ∙ tr.states u
+    ∙ ap (λ k. states_after (state_after k) (state_at rows) x.trade u) (sym is))
     (λ u. ap (λ z. terms_at z u) et ∙ tr.terms u ∙ ap (λ k. terms_after (is_enter k) (terms_at rows) x u) (sym is)) in
     follows-rules h s (standing_in r c q) x (xs, run) (leads ∙ sym (accepted h s x ok))

@@ -99,7 +99,7 @@ impl<R: Book, C: Book> Ledger<R, C> {
     ///
     /// The refusal of the first check that fails, and the trade if the kind names one:
     ///
-    /// - 32 the kind byte is unknown, then 31 a field that the kind does not use is not 0;
+    /// - 32 the kind byte is unknown, then 31 a field is filled that the kind has no use for;
     /// - Issue and Pay in: then 21 to 24, as the book's `credit`;
     /// - Enter: then 30 no such trade, 34 it was entered before, 33 seller and buyer are one account,
     ///   21 no such account, 22 no such item or currency, 23 the quantity or the amount is 0;

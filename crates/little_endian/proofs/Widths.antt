@@ -1,4 +1,4 @@
--- LittleEndian numbers, once for every width. Assumes nothing.
+-- Little-endian numbers of every width: each way undoes the other.
 use Rattle.std.proofs.Common.{◌≡◌, ℕ, zero, suc, ◌+◌, ◌*◌, ◌/◌, ◌%◌, ◌^◌, ◌<◌, ◌≤◌, List, [], ◌∷◌, length, get_or, take, drop, refl, ap, ◌∙◌, div-lt_iff_lt-mul, pow-suc, arith, lit<, drop-cons}
 use Rattle.std.specs.List.{AllByRecursion}
 use native.Mathlib.Nat.{mod-add-div}
@@ -21,7 +21,7 @@ part-drop (suc w) i bs h =
 pub part-whole : (w : ℕ) (bs : List ℕ) → length bs ≡ w → bs ≡ bytes_from 0 w bs
 part-whole w bs h = part-drop w 0 bs (omega arith)
 
--- one byte more, written again
+-- a number with one more lowest byte, written again
 byte-back : (b n w : ℕ) → b < 256 → le_bytes (suc w) (b + 256 * n) ≡ b ∷ le_bytes w n
 byte-back b n w small =
     let low : (b + 256 * n) % 256 ≡ b = omega (arith, small) in

@@ -1,18 +1,23 @@
-// Numbers as bytes, the lowest byte first.
+//! Numbers as bytes, the lowest byte first.
+//!
+//! The clause `undone` of `LittleEndian::from_little_endian` promises for every width that reading undoes
+//! writing and writing undoes reading.
 #![tactic(auto)]
 
 ghost use Rattle.std.specs.Prelude.{◌≡◌, ℕ};
 ghost use Rattle.little_endian.specs.Little.{le_number, le_bytes, EveryWidth};
 
-// Numbers of N bytes. Reading undoes writing and writing undoes reading, for all widths together.
+/// Numbers of N bytes.
 pub trait LittleEndian<const N: usize>: Copy {
     // the number that a value is
     ghost value: { Self → ℕ };
 
+    /// The number that the bytes mean.
     fn from_little_endian(b: &[u8; N]) -> Self
         ensures value { value result ≡ le_number b.now }
         ensures undone { EveryWidth };
 
+    /// The number's bytes.
     fn to_little_endian(self) -> [u8; N]
         ensures { result ≡ le_bytes N (value self) };
 }

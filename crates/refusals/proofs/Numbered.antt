@@ -1,4 +1,4 @@
--- Refusals and their numbers, both ways.
+-- A refusal and its number determine each other.
 use Rattle.std.proofs.Common.{◌≡◌, true, refl, sym, ap, ◌∙◌, eqb}
 use Rattle.std.specs.List.{list_any}
 use Rattle.refusals.specs.declared.Refusal.{Refusal}
@@ -9,14 +9,14 @@ own : (r : Refusal) → numbered (number_of r) ≡ r
 own NoBlock = refl
 own r = refl
 
-listed : (r : Refusal) → list_any (λ n. eqb n (number_of r)) numbers ≡ true
-listed NoBlock = refl
-listed r = refl
+complete : (r : Refusal) → list_any (λ n. eqb n (number_of r)) numbers ≡ true
+complete NoBlock = refl
+complete r = refl
 
 pub numbers_tell_apart : NumbersTellApart
 numbers_tell_apart = record {
   back = own;
   forth = (refl, (refl, (refl, (refl, (refl, (refl, (refl, (refl, (refl, (refl, (refl, (refl, (refl, (refl, (refl, (refl, (refl, (refl, (refl, (refl, (refl, (refl, (refl, (refl, (refl, (refl, (refl, tt)))))))))))))))))))))))))));
-  listed = listed;
+  complete = complete;
   apart = λ r s e. sym (own r) ∙ ap numbered e ∙ own s;
 }

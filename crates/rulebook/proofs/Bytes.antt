@@ -21,6 +21,7 @@ module _ (P : Act → ℕ → Type 0) (issue : P (Some Issue) 1) (pay-in : P (So
       ⊎_elim (λ (y : eqb n 5 ≡ true). rw y (here n 5 (Some Fund) fund y)) (λ (y5 : eqb n 5 ≡ false). rw y5 (
       ⊎_elim (λ (y : eqb n 6 ≡ true). rw y (here n 6 (Some Settle) settle y)) (λ (y6 : eqb n 6 ≡ false). rw y6 (
       ⊎_elim (λ (y : eqb n 7 ≡ true). rw y (here n 7 (Some Free) free y)) (λ (y7 : eqb n 7 ≡ false). rw y7 (
-      none n (λ l m. omega (arith, eqb-false n 3 y3, eqb-false n 4 y4, eqb-false n 5 y5, eqb-false n 6 y6, eqb-false n 7 y7))))
+      none n (λ l m. omega
+      (arith, eqb-false n 3 y3, eqb-false n 4 y4, eqb-false n 5 y5, eqb-false n 6 y6, eqb-false n 7 y7))))
       (cases_Bool (eqb n 7)))) (cases_Bool (eqb n 6)))) (cases_Bool (eqb n 5)))) (cases_Bool (eqb n 4))))
       (cases_Bool (eqb n 3)))) (cases_Bool (eqb n 2)))) (cases_Bool (eqb n 1))

@@ -31,27 +31,52 @@ module _ (h : Rulebook) (s : Standing) (z : Safe h s) (x : Instruction) where
   good : (k : Act) (o : State) → s.state x.trade ≡ o → is_enter k ≡ false → may_start k o ≡ true → Proper h m
   good k o e i w = ⊎_elim (λ n. absurd (was-entered h k o i w (sym e ∙ n))) (λ p. p) (z.proper x.trade)
 
-  may-block : (d : Side) → Proper h m → volume d m ≤ (s.book d).free (giver d m) (asset d m) → first_refusal (checks (h.book_kind d) (s.book d) (blocking (giver d m) (asset d m) (volume d m))) ≡ Ok tt
-  may-block d p l = passes (checks (h.book_kind d) (s.book d) (blocking (giver d m) (asset d m) (volume d m))) (lt-leb 64 _ (p.giver-low d), (lt-leb _ _ (p.asset-low d), (not-zero _ (p.some-volume d), (le-ltb _ _ l, tt))))
+  may-block : (d : Side) → Proper h m → volume d m ≤ (s.book d).free (giver d m) (asset d m)
+      → first_refusal (checks (h.book_kind d) (s.book d) (blocking (giver d m) (asset d m) (volume d m))) ≡ Ok tt
+  may-block d p l = passes (checks (h.book_kind d) (s.book d) (blocking (giver d m) (asset d m) (volume d m))) (
+    lt-leb 64 _ (p.giver-low d),
+    (
+      lt-leb _ _ (p.asset-low d),
+      (not-zero _ (p.some-volume d), (le-ltb _ _ l, tt)),
+    ),
+  )
 
-  may-release : (d : Side) → Proper h m → volume d m ≤ (s.book d).blocked (giver d m) (asset d m) → first_refusal (checks (h.book_kind d) (s.book d) (releasing (giver d m) (asset d m) (volume d m))) ≡ Ok tt
-  may-release d p l = passes (checks (h.book_kind d) (s.book d) (releasing (giver d m) (asset d m) (volume d m))) (lt-leb 64 _ (p.giver-low d), (lt-leb _ _ (p.asset-low d), (not-zero _ (p.some-volume d), (le-ltb _ _ l, tt))))
+  may-release : (d : Side) → Proper h m → volume d m ≤ (s.book d).blocked (giver d m) (asset d m)
+      → first_refusal (checks (h.book_kind d) (s.book d) (releasing (giver d m) (asset d m) (volume d m))) ≡ Ok tt
+  may-release d p l = passes (checks (h.book_kind d) (s.book d) (releasing (giver d m) (asset d m) (volume d m))) (
+    lt-leb 64 _ (p.giver-low d),
+    (
+      lt-leb _ _ (p.asset-low d),
+      (not-zero _ (p.some-volume d), (le-ltb _ _ l, tt)),
+    ),
+  )
 
-  may-move : (d : Side) → Proper h m → volume d m ≤ (s.book d).blocked (giver d m) (asset d m) → first_refusal (checks (h.book_kind d) (s.book d) (moving (giver d m) (taker d m) (asset d m) (volume d m))) ≡ Ok tt
-  may-move d p l = passes (checks (h.book_kind d) (s.book d) (moving (giver d m) (taker d m) (asset d m) (volume d m))) (neither _ _ (lt-leb 64 _ (p.giver-low d)) (lt-leb 64 _ (p.taker-low d)), (lt-leb _ _ (p.asset-low d), (not-zero _ (p.some-volume d), (le-ltb _ _ l, tt))))
+  may-move : (d : Side) → Proper h m → volume d m ≤ (s.book d).blocked (giver d m) (asset d m)
+      → first_refusal (checks (h.book_kind d) (s.book d)
+      (moving (giver d m) (taker d m) (asset d m) (volume d m))) ≡ Ok tt
+  may-move d p l = passes (checks (h.book_kind d) (s.book d)
+      (moving (giver d m) (taker d m) (asset d m) (volume d m))) (
+        neither _ _ (lt-leb 64 _ (p.giver-low d)) (lt-leb 64 _ (p.taker-low d)),
+        (lt-leb _ _ (p.asset-low d), (not-zero _ (p.some-volume d), (le-ltb _ _ l, tt))),
+      )
 
-  still-blocked : (d : Side) (o : State) → x.trade < 128 → s.state x.trade ≡ o → has_blocked d o ≡ true → volume d m ≤ (s.book d).blocked (giver d m) (asset d m)
+  still-blocked : (d : Side) (o : State) → x.trade < 128 → s.state x.trade ≡ o → has_blocked d o ≡ true
+      → volume d m ≤ (s.book d).blocked (giver d m) (asset d m)
   still-blocked d o l e y = z.covered d x.trade l (ap (has_blocked d) e ∙ y)
 
-  takes : (k : Act) (d : Side) (o : State) → s.state x.trade ≡ o → first_refusal (all_checks h k o m s x) ≡ Ok tt → Takes k d o
-  takes (Some Issue) securities o e p = passes (checks (h.book_kind securities) (s.book securities) (crediting x.account x.item x.quantity)) (cleared h m s x (Some Issue) o p).1.1
+  takes : (k : Act) (d : Side) (o : State) → s.state x.trade ≡ o → first_refusal (all_checks h k o m s x) ≡ Ok tt
+      → Takes k d o
+  takes (Some Issue) securities o e p = passes (checks (h.book_kind securities) (s.book securities)
+      (crediting x.account x.item x.quantity)) (cleared h m s x (Some Issue) o p).1.1
   takes (Some Issue) cash o e p = refl
   takes (Some PayIn) securities o e p = refl
-  takes (Some PayIn) cash o e p = passes (checks (h.book_kind cash) (s.book cash) (crediting x.account x.currency x.amount)) (cleared h m s x (Some PayIn) o p).1.1
+  takes (Some PayIn) cash o e p = passes (checks (h.book_kind cash) (s.book cash)
+      (crediting x.account x.currency x.amount)) (cleared h m s x (Some PayIn) o p).1.1
   takes (Some Enter) d o e p = refl
   takes (Some Earmark) securities o e p =
       let r = right h (Some Earmark) o m s x tt p in
-      may-block securities (good (Some Earmark) o e refl r.from) (ltb-false _ _ (cleared h m s x (Some Earmark) o p).1.1.1.1.0)
+      may-block securities (good (Some Earmark) o e refl r.from)
+      (ltb-false _ _ (cleared h m s x (Some Earmark) o p).1.1.1.1.0)
   takes (Some Earmark) cash o e p = refl
   takes (Some Fund) securities o e p = refl
   takes (Some Fund) cash o e p =
@@ -62,9 +87,11 @@ module _ (h : Rulebook) (s : Standing) (z : Safe h s) (x : Instruction) where
       may-move d (good (Some Settle) o e refl r.from) (still-blocked d o r.low e (settle-from h d o r.from).0)
   takes (Some Free) d o e p =
       let r = right h (Some Free) o m s x tt p in
-      ⊎_elim (λ (y : has_blocked d o ≡ true). rw y (may-release d (good (Some Free) o e refl r.from) (still-blocked d o r.low e y)))
+      ⊎_elim (λ (y : has_blocked d o ≡ true). rw y
+      (may-release d (good (Some Free) o e refl r.from) (still-blocked d o r.low e y)))
       (λ (y : has_blocked d o ≡ false). rw y) (cases_Bool (has_blocked d o))
   takes None d o e p = refl
 
-pub books-accept : (h : Rulebook) (xs : List Instruction) (s : Standing) (x : Instruction) → Runs h xs s → BooksAccept h s x
+pub books-accept : (h : Rulebook) (xs : List Instruction) (s : Standing) (x : Instruction) → Runs h xs s
+    → BooksAccept h s x
 books-accept h xs s x r e d = takes h s (safe h xs s r) x (kind_at x.kind) d (s.state x.trade) refl e

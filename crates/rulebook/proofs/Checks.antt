@@ -35,11 +35,13 @@ pub record Right (h : Rulebook) (k : Act) (o : State) (x : Instruction) : Type 0
 abbrev pub IsOfTrade : Act → Type 0
 IsOfTrade k = T (names_trade k)
 
-pub right : (h : Rulebook) (k : Act) (o : State) (m : Terms) (s : Standing) (x : Instruction) → IsOfTrade k → first_refusal (all_checks h k o m s x) ≡ Ok tt → Right h k o x
+pub right : (h : Rulebook) (k : Act) (o : State) (m : Terms) (s : Standing) (x : Instruction) → IsOfTrade k
+    → first_refusal (all_checks h k o m s x) ≡ Ok tt → Right h k o x
 right h (Some Issue) o m s x t e = absurd t
 right h (Some PayIn) o m s x t e = absurd t
 right h None o m s x t e = absurd t
-right h k o m s x t e = let c = cleared h m s x k o e in record { low = leb-false _ _ c.1.1.0; from = not-false _ c.1.1.1.0 }
+right h k o m s x t e = let c = cleared h m s x k o
+    e in record { low = leb-false _ _ c.1.1.0; from = not-false _ c.1.1.1.0 }
 
 -- in this state a trade has nothing blocked and is not settled; an Enter starts from such a state
 pub record Idle (d : Side) (o : State) : Type 0 where
@@ -57,10 +59,12 @@ entered-idle cash = record { none-blocked = refl; unsettled = refl }
 pub earmark-idle : (h : Rulebook) (d : Side) (o : State) → may_start (Some Earmark) o ≡ true → Idle d o
 earmark-idle h d o e = record { none-blocked = grind arith; unsettled = grind arith }
 
-pub fund-from : (h : Rulebook) (o : State) → may_start (Some Fund) o ≡ true → (has_blocked securities o ≡ true) × (has_blocked cash o ≡ false) × (is_settled o ≡ false)
+pub fund-from : (h : Rulebook) (o : State) → may_start (Some Fund) o ≡ true
+    → (has_blocked securities o ≡ true) × (has_blocked cash o ≡ false) × (is_settled o ≡ false)
 fund-from h o e = (grind arith, grind arith, grind arith)
 
-pub settle-from : (h : Rulebook) (d : Side) (o : State) → may_start (Some Settle) o ≡ true → (has_blocked d o ≡ true) × (is_settled o ≡ false)
+pub settle-from : (h : Rulebook) (d : Side) (o : State) → may_start (Some Settle) o ≡ true
+    → (has_blocked d o ≡ true) × (is_settled o ≡ false)
 settle-from h d o e = (grind arith, grind arith)
 
 pub free-from : (h : Rulebook) (o : State) → may_start (Some Free) o ≡ true → is_settled o ≡ false

@@ -9,7 +9,7 @@ use Rattle.rulebook.specs.declared.State.{State}
 use Rattle.rulebook.specs.declared.State.TheVariants.{Earmarked, Funded, Settled}
 use Rattle.rulebook.specs.declared.Terms.{Terms}
 use Rattle.rulebook.specs.Terms.{Side, securities, cash}
-use Rattle.rulebook.specs.Tally.{trades, share, gift, receipt, hold}
+use Rattle.rulebook.specs.Tally.{trades, share, outflow, inflow, hold}
 use Rattle.rulebook.proofs.Replay.{give_of, take_of, hold_of, over}
 
 both : (b c : Bool) (q : ℕ) → cond b (cond c q 0) 0 ≡ amount_if (b && c) q
@@ -35,17 +35,17 @@ module _ (a i : ℕ) where
   pub share-is : (A I q : ℕ) → share a i A I q ≡ amount_if (is_place A I a i) q
   share-is A I q = both (eqb A a) (eqb I i) q
 
-  gift-is : (d : Side) (o : State) (m : Terms) → gift a i d o m ≡ give_of d a i o m
-  gift-is securities Settled m = search share-is
-  gift-is cash Settled m = search share-is
-  gift-is securities o m = refl
-  gift-is cash o m = refl
+  outflow-is : (d : Side) (o : State) (m : Terms) → outflow a i d o m ≡ give_of d a i o m
+  outflow-is securities Settled m = search share-is
+  outflow-is cash Settled m = search share-is
+  outflow-is securities o m = refl
+  outflow-is cash o m = refl
 
-  receipt-is : (d : Side) (o : State) (m : Terms) → receipt a i d o m ≡ take_of d a i o m
-  receipt-is securities Settled m = search share-is
-  receipt-is cash Settled m = search share-is
-  receipt-is securities o m = refl
-  receipt-is cash o m = refl
+  inflow-is : (d : Side) (o : State) (m : Terms) → inflow a i d o m ≡ take_of d a i o m
+  inflow-is securities Settled m = search share-is
+  inflow-is cash Settled m = search share-is
+  inflow-is securities o m = refl
+  inflow-is cash o m = refl
 
   hold-is : (d : Side) (o : State) (m : Terms) → hold a i d o m ≡ hold_of d a i o m
   hold-is securities Earmarked m = search share-is
@@ -59,11 +59,14 @@ module _ (a i : ℕ) where
       → sum_by (λ t. f (st t) (tm t)) trades ≡ over g st tm
   summed f g e st tm = over-trades (λ t. f (st t) (tm t)) ∙ sum_below-same 128 _ _ (λ t l. e (st t) (tm t))
 
-  pub gifts-is : (d : Side) (st : ℕ → State) (tm : ℕ → Terms) → sum_by (λ t. gift a i d (st t) (tm t)) trades ≡ over (give_of d a i) st tm
-  gifts-is d st tm = summed (gift a i d) (give_of d a i) (gift-is d) st tm
+  pub outflows-is : (d : Side) (st : ℕ → State) (tm : ℕ → Terms)
+      → sum_by (λ t. outflow a i d (st t) (tm t)) trades ≡ over (give_of d a i) st tm
+  outflows-is d st tm = summed (outflow a i d) (give_of d a i) (outflow-is d) st tm
 
-  pub receipts-is : (d : Side) (st : ℕ → State) (tm : ℕ → Terms) → sum_by (λ t. receipt a i d (st t) (tm t)) trades ≡ over (take_of d a i) st tm
-  receipts-is d st tm = summed (receipt a i d) (take_of d a i) (receipt-is d) st tm
+  pub inflows-is : (d : Side) (st : ℕ → State) (tm : ℕ → Terms)
+      → sum_by (λ t. inflow a i d (st t) (tm t)) trades ≡ over (take_of d a i) st tm
+  inflows-is d st tm = summed (inflow a i d) (take_of d a i) (inflow-is d) st tm
 
-  pub holds-is : (d : Side) (st : ℕ → State) (tm : ℕ → Terms) → sum_by (λ t. hold a i d (st t) (tm t)) trades ≡ over (hold_of d a i) st tm
+  pub holds-is : (d : Side) (st : ℕ → State) (tm : ℕ → Terms)
+      → sum_by (λ t. hold a i d (st t) (tm t)) trades ≡ over (hold_of d a i) st tm
   holds-is d st tm = summed (hold a i d) (hold_of d a i) (hold-is d) st tm

@@ -17,17 +17,20 @@ pub refused : (h : Rulebook) (s : Standing) (x : Instruction) (f : Refusal) → 
 refused h s x f e = ap (λ r. if_ok r (effect s x) s) e
 
 -- in both cases accepted instructions lead there
-stepped : (h : Rulebook) (s : Standing) (x : Instruction) → IsReachable h s → (r : Result (Unit {0}) Refusal) → answer h s x ≡ r → IsReachable h (if_ok r (effect s x) s)
+stepped : (h : Rulebook) (s : Standing) (x : Instruction) → IsReachable h s → (r : Result (Unit {0}) Refusal)
+    → answer h s x ≡ r → IsReachable h (if_ok r (effect s x) s)
 stepped h s x (xs, run) (Ok u) e = (xs ++ (x ∷ []), more x run e)
 stepped h s x z (Err f) e = z
 
 pub reachable-step : (h : Rulebook) (s : Standing) (x : Instruction) → IsReachable h s → IsReachable h (step h s x)
 reachable-step h s x z = stepped h s x z (answer h s x) refl
 
-pub follows-rules : (h : Rulebook) (s t : Standing) (x : Instruction) → IsReachable h s → t ≡ step h s x → FollowsRules h s t x
+pub follows-rules : (h : Rulebook) (s t : Standing) (x : Instruction) → IsReachable h s → t ≡ step h s x
+    → FollowsRules h s t x
 follows-rules h s t x z e = record {
   after = e;
   reachable = subst (λ u. IsReachable h u) (sym e) (reachable-step h s x z);
   books-accept = books-accept h z.0 s x z.1;
-  trade-steps = λ ok l m. subst (λ u. TradeSteps (s.state x.trade) x.kind (u.state x.trade)) (sym (e ∙ accepted h s x ok)) (accepted-steps h s x ok l m);
+  trade-steps = λ ok l m. subst (λ u. TradeSteps (s.state x.trade) x.kind (u.state x.trade))
+      (sym (e ∙ accepted h s x ok)) (accepted-steps h s x ok l m);
 }

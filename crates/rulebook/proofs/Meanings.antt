@@ -49,52 +49,89 @@ touched x f t o =
     (λ n h l m. absurd (h l m)) x.kind o.from o.to
   where
     entered-after : IsStateAfter 3 Entered
-    entered-after = record { entered = λ e. refl; earmarked = λ e. absurd (omega arith); funded = λ e. absurd (omega arith); settled = λ e. absurd (omega arith); freed = λ e. absurd (omega arith) }
+    entered-after = record {
+      entered = λ e. refl;
+      earmarked = λ e. absurd (omega arith);
+      funded = λ e. absurd (omega arith);
+      settled = λ e. absurd (omega arith);
+      freed = λ e. absurd (omega arith);
+    }
 
     earmarked-after : IsStateAfter 4 Earmarked
-    earmarked-after = record { entered = λ e. absurd (omega arith); earmarked = λ e. refl; funded = λ e. absurd (omega arith); settled = λ e. absurd (omega arith); freed = λ e. absurd (omega arith) }
+    earmarked-after = record {
+      entered = λ e. absurd (omega arith);
+      earmarked = λ e. refl;
+      funded = λ e. absurd (omega arith);
+      settled = λ e. absurd (omega arith);
+      freed = λ e. absurd (omega arith);
+    }
 
     funded-after : IsStateAfter 5 Funded
-    funded-after = record { entered = λ e. absurd (omega arith); earmarked = λ e. absurd (omega arith); funded = λ e. refl; settled = λ e. absurd (omega arith); freed = λ e. absurd (omega arith) }
+    funded-after = record {
+      entered = λ e. absurd (omega arith);
+      earmarked = λ e. absurd (omega arith);
+      funded = λ e. refl;
+      settled = λ e. absurd (omega arith);
+      freed = λ e. absurd (omega arith);
+    }
 
     settled-after : IsStateAfter 6 Settled
-    settled-after = record { entered = λ e. absurd (omega arith); earmarked = λ e. absurd (omega arith); funded = λ e. absurd (omega arith); settled = λ e. refl; freed = λ e. absurd (omega arith) }
+    settled-after = record {
+      entered = λ e. absurd (omega arith);
+      earmarked = λ e. absurd (omega arith);
+      funded = λ e. absurd (omega arith);
+      settled = λ e. refl;
+      freed = λ e. absurd (omega arith);
+    }
 
     freed-after : IsStateAfter 7 Freed
-    freed-after = record { entered = λ e. absurd (omega arith); earmarked = λ e. absurd (omega arith); funded = λ e. absurd (omega arith); settled = λ e. absurd (omega arith); freed = λ e. refl }
+    freed-after = record {
+      entered = λ e. absurd (omega arith);
+      earmarked = λ e. absurd (omega arith);
+      funded = λ e. absurd (omega arith);
+      settled = λ e. absurd (omega arith);
+      freed = λ e. refl;
+    }
 
 pub stay : (zs : List Instruction) (f : ℕ → State) (t : ℕ) → HasNo (IsOn t) zs → fold read_state f zs t ≡ f t
 stay [] f t h = refl
 stay (z ∷ zs) f t h = stay zs (read_state f z) t h.1 ∙ untouched z f t h.0
 
-after-x : (xs zs : List Instruction) (f : ℕ → State) (x : Instruction) (t : ℕ) → IsOn t x → HasNo (IsOn t) zs → IsStateAfter x.kind (fold read_state f (xs ++ (x ∷ zs)) t)
+after-x : (xs zs : List Instruction) (f : ℕ → State) (x : Instruction) (t : ℕ) → IsOn t x → HasNo (IsOn t) zs
+    → IsStateAfter x.kind (fold read_state f (xs ++ (x ∷ zs)) t)
 after-x [] zs f x t o h = rw (stay zs (read_state f x) t h) (touched x f t o)
 after-x (y ∷ xs) zs f x t o h = after-x xs zs (read_state f y) x t o h
 
-pub after-last : (xs : List Instruction) (f : ℕ → State) (x : Instruction) (t : ℕ) → IsLast (IsOn t) x xs → IsStateAfter x.kind (fold read_state f xs t)
+pub after-last : (xs : List Instruction) (f : ℕ → State) (x : Instruction) (t : ℕ) → IsLast (IsOn t) x xs
+    → IsStateAfter x.kind (fold read_state f xs t)
 after-last xs f x t l =
-    subst (λ ys. IsStateAfter x.kind (fold read_state f ys t)) (sym l.place) (after-x l.before l.later f x t l.holds l.never-later)
+    subst (λ ys. IsStateAfter x.kind (fold read_state f ys t)) (sym l.place)
+    (after-x l.before l.later f x t l.holds l.never-later)
 
 terms-same : (f : ℕ → Terms) (x : Instruction) (t : ℕ) → (IsEnterOn t x → ⊥) → read_terms f x t ≡ f t
 terms-same f x t h =
-    ⊎_elim (λ (e : eqb x.kind (code_of Enter) ≡ true). rw (enter-code x.kind, e) (at-other f x.trade t (terms_of x) (λ w. h (record { kind = eqb-true _ _ e; trade = w }))))
+    ⊎_elim (λ (e : eqb x.kind (code_of Enter) ≡ true). rw (enter-code x.kind, e)
+    (at-other f x.trade t (terms_of x) (λ w. h (record { kind = eqb-true _ _ e; trade = w }))))
     (λ (e : eqb x.kind (code_of Enter) ≡ false). rw (enter-code x.kind, e)) (cases_Bool (eqb x.kind (code_of Enter)))
 
 terms-set : (f : ℕ → Terms) (x : Instruction) (t : ℕ) → IsEnterOn t x → read_terms f x t ≡ terms_of x
-terms-set f x t o = rw (enter-code x.kind, eq-eqb x.kind (code_of Enter) o.kind) (at-same f x.trade t (terms_of x) o.trade)
+terms-set f x t o = rw (enter-code x.kind, eq-eqb x.kind (code_of Enter) o.kind)
+    (at-same f x.trade t (terms_of x) o.trade)
 
 terms-stay : (zs : List Instruction) (f : ℕ → Terms) (t : ℕ) → HasNo (IsEnterOn t) zs → fold read_terms f zs t ≡ f t
 terms-stay [] f t h = refl
 terms-stay (z ∷ zs) f t h = terms-stay zs (read_terms f z) t h.1 ∙ terms-same f z t h.0
 
-terms-x : (xs zs : List Instruction) (f : ℕ → Terms) (x : Instruction) (t : ℕ) → IsEnterOn t x → HasNo (IsEnterOn t) zs → fold read_terms f (xs ++ (x ∷ zs)) t ≡ terms_of x
+terms-x : (xs zs : List Instruction) (f : ℕ → Terms) (x : Instruction) (t : ℕ) → IsEnterOn t x
+    → HasNo (IsEnterOn t) zs → fold read_terms f (xs ++ (x ∷ zs)) t ≡ terms_of x
 terms-x [] zs f x t o h = terms-stay zs (read_terms f x) t h ∙ terms-set f x t o
 terms-x (y ∷ xs) zs f x t o h = terms-x xs zs (read_terms f y) x t o h
 
 stated : (x : Instruction) → StatesTerms x (terms_of x)
 stated x = search
 
-pub stated-last : (xs : List Instruction) (f : ℕ → Terms) (x : Instruction) (t : ℕ) → IsLast (IsEnterOn t) x xs → StatesTerms x (fold read_terms f xs t)
+pub stated-last : (xs : List Instruction) (f : ℕ → Terms) (x : Instruction) (t : ℕ) → IsLast (IsEnterOn t) x xs
+    → StatesTerms x (fold read_terms f xs t)
 stated-last xs f x t l =
     let e = ap (λ ys. fold read_terms f ys t) l.place ∙ terms-x l.before l.later f x t l.holds l.never-later in
     subst (StatesTerms x) (sym e) (stated x)
@@ -105,7 +142,8 @@ module _ (P : Instruction → Type 0) where
   missed [] zs y n p = n.0 p
   missed (u ∷ ys) zs y n p = missed ys zs y n.1 p
 
-  one-place : (xs ys : List Instruction) (x y : Instruction) (us vs : List Instruction) → xs ++ (x ∷ us) ≡ ys ++ (y ∷ vs)
+  one-place : (xs ys : List Instruction) (x y : Instruction) (us vs : List Instruction)
+      → xs ++ (x ∷ us) ≡ ys ++ (y ∷ vs)
       → P x → P y → HasNo P us → HasNo P vs → x ≡ y
   one-place [] [] x y us vs e p q n m = cc
   one-place [] (w ∷ ys) x y us vs e p q n m =
@@ -119,16 +157,27 @@ module _ (P : Instruction → Type 0) where
       one-place xs ys x y us vs f p q n m
 
   one : (xs : List Instruction) (x y : Instruction) → IsLast P x xs → IsLast P y xs → x ≡ y
-  one xs x y l m = one-place l.before m.before x y l.later m.later (sym l.place ∙ m.place) l.holds m.holds l.never-later m.never-later
+  one xs x y l m = one-place l.before m.before x y l.later m.later
+      (sym l.place ∙ m.place) l.holds m.holds l.never-later m.never-later
 
-  some : ((x : Instruction) → P x ⊎ (P x → ⊥)) → (xs : List Instruction) → HasNo P xs ⊎ ((x : Instruction) × IsLast P x xs)
+  some : ((x : Instruction) → P x ⊎ (P x → ⊥)) → (xs : List Instruction)
+      → HasNo P xs ⊎ ((x : Instruction) × IsLast P x xs)
   some d [] = inl tt
   some d (x ∷ xs) =
       ⊎_elim (λ (n : HasNo P xs).
       ⊎_elim (λ (p : P x). inr (x, record { before = []; later = xs; place = refl; holds = p; never-later = n }))
       (λ (q : P x → ⊥). inl (q, n)) (d x))
       (λ (l : (y : Instruction) × IsLast P y xs).
-      inr (l.0, record { before = x ∷ l.1.before; later = l.1.later; place = ap (λ ys. x ∷ ys) l.1.place; holds = l.1.holds; never-later = l.1.never-later }))
+      inr (
+        l.0,
+        record {
+          before = x ∷ l.1.before;
+          later = l.1.later;
+          place = ap (λ ys. x ∷ ys) l.1.place;
+          holds = l.1.holds;
+          never-later = l.1.never-later;
+        },
+      ))
       (some d xs)
 
 is-on : (t : ℕ) (x : Instruction) → IsOn t x ⊎ (IsOn t x → ⊥)
@@ -137,14 +186,16 @@ is-on t x =
     (λ (l : 3 ≤ x.kind).
     ⊎_elim (λ (m : 7 < x.kind). inr (λ o. let f = o.to in omega arith))
     (λ (m : x.kind ≤ 7).
-    ⊎_elim (λ (e : x.trade ≡ t). inl (record { from = l; to = m; trade = e })) (λ (n : x.trade ≡ t → ⊥). inr (λ o. n o.trade)) (cases_eq x.trade t))
+    ⊎_elim (λ (e : x.trade ≡ t). inl (record { from = l; to = m; trade = e }))
+    (λ (n : x.trade ≡ t → ⊥). inr (λ o. n o.trade)) (cases_eq x.trade t))
     (cases_lt 7 x.kind))
     (cases_lt x.kind 3)
 
 is-enter-on : (t : ℕ) (x : Instruction) → IsEnterOn t x ⊎ (IsEnterOn t x → ⊥)
 is-enter-on t x =
     ⊎_elim (λ (k : x.kind ≡ 3).
-    ⊎_elim (λ (e : x.trade ≡ t). inl (record { kind = k; trade = e })) (λ (n : x.trade ≡ t → ⊥). inr (λ o. n o.trade)) (cases_eq x.trade t))
+    ⊎_elim (λ (e : x.trade ≡ t). inl (record { kind = k; trade = e }))
+    (λ (n : x.trade ≡ t → ⊥). inr (λ o. n o.trade)) (cases_eq x.trade t))
     (λ (n : x.kind ≡ 3 → ⊥). inr (λ o. n o.kind)) (cases_eq x.kind 3)
 
 pub lasts-are-unique : LastsAreUnique
@@ -154,7 +205,8 @@ lasts-are-unique = record {
 }
 
 -- a trade's instruction leads by the table
-steps : (k : Kind) (n : ℕ) → kind_at n ≡ Some k → (o p : State) (f : ℕ → State) (t : ℕ) → state_after (Some k) ≡ Some p → may_start (Some k) o ≡ true
+steps : (k : Kind) (n : ℕ) → kind_at n ≡ Some k → (o p : State) (f : ℕ → State) (t : ℕ)
+    → state_after (Some k) ≡ Some p → may_start (Some k) o ≡ true
     → TradeSteps o n (states_after (state_after (Some k)) f t t)
 steps k n c o p f t e w =
     let b : next_state (Some k) o ≡ Some p = cond-true (may_start (Some k) o) (state_after (Some k)) None w ∙ e in
@@ -167,7 +219,8 @@ pub accepted-steps : (h : Rulebook) (s : Standing) (x : Instruction) → answer 
 accepted-steps h s x ok l m =
     let o = s.state x.trade in
     let tm = s.terms x.trade in
-    by-byte (λ k n. first_refusal (all_checks h k o tm s x) ≡ Ok tt → 3 ≤ n → n ≤ 7 → TradeSteps o n (states_after (state_after k) s.state x.trade x.trade))
+    by-byte (λ k n. first_refusal (all_checks h k o tm s x) ≡ Ok tt → 3 ≤ n → n ≤ 7 → TradeSteps o n
+    (states_after (state_after k) s.state x.trade x.trade))
     (λ p l m. absurd (omega arith)) (λ p l m. absurd (omega arith))
     (λ p l m. steps Enter 3 refl o Entered s.state x.trade refl (right h (Some Enter) o tm s x tt p).from)
     (λ p l m. steps Earmark 4 refl o Earmarked s.state x.trade refl (right h (Some Earmark) o tm s x tt p).from)

@@ -28,21 +28,26 @@ pub record Proper (h : Rulebook) (m : Terms) : Type 0 where
 -- what the books' acceptance rests on
 pub record Safe (h : Rulebook) (s : Standing) : Type 0 where
   pub proper : (t : ℕ) → (s.state t ≡ Unentered) ⊎ Proper h (s.terms t)
-  pub covered : (d : Side) (t : ℕ) → t < 128 → has_blocked d (s.state t) ≡ true → volume d (s.terms t) ≤ (s.book d).blocked (giver d (s.terms t)) (asset d (s.terms t))
+  pub covered : (d : Side) (t : ℕ) → t < 128 → has_blocked d (s.state t) ≡ true
+      → volume d (s.terms t) ≤ (s.book d).blocked (giver d (s.terms t)) (asset d (s.terms t))
 
 module _ (P : Terms → Type 0) (st : ℕ → State) (tm : ℕ → Terms) (h : (t : ℕ) → (st t ≡ Unentered) ⊎ P (tm t)) where
   set-entered : (t : ℕ) (m : Terms) → P m → (u : ℕ) → (updated st t Entered u ≡ Unentered) ⊎ P (updated tm t m u)
   set-entered t m p u =
       ⊎_elim (λ (e : eqb t u ≡ true). inr (rw e p)) (λ (e : eqb t u ≡ false). rw e (h u)) (cases_Bool (eqb t u))
 
-  set-on : (t : ℕ) (old new : State) → st t ≡ old → (old ≡ Unentered → ⊥) → (u : ℕ) → (updated st t new u ≡ Unentered) ⊎ P (tm u)
+  set-on : (t : ℕ) (old new : State) → st t ≡ old → (old ≡ Unentered → ⊥) → (u : ℕ)
+      → (updated st t new u ≡ Unentered) ⊎ P (tm u)
   set-on t old new e ne u =
       ⊎_elim (λ (y : eqb t u ≡ true).
       ⊎_elim (λ n. absurd (ne (sym e ∙ ap st (eqb-true t u y) ∙ n))) (λ p. inr p) (h u))
       (λ (y : eqb t u ≡ false). rw y (h u)) (cases_Bool (eqb t u))
 
 module _ (h : Rulebook) where
-  proper-step : (s : Standing) (x : Instruction) → ((t : ℕ) → (s.state t ≡ Unentered) ⊎ Proper h (s.terms t)) → (k : Act) (o : State) → s.state x.trade ≡ o → first_refusal (all_checks h k o (s.terms x.trade) s x) ≡ Ok tt → (t : ℕ) → (states_after (state_after k) s.state x.trade t ≡ Unentered) ⊎ Proper h (terms_after (is_enter k) s.terms x t)
+  proper-step : (s : Standing) (x : Instruction) → ((t : ℕ) → (s.state t ≡ Unentered) ⊎ Proper h (s.terms t))
+      → (k : Act) (o : State) → s.state x.trade ≡ o → first_refusal (all_checks h k o (s.terms x.trade) s x) ≡ Ok tt
+      → (t : ℕ) → (states_after (state_after k) s.state x.trade t ≡ Unentered) ⊎ Proper h (terms_after
+      (is_enter k) s.terms x t)
   proper-step s x q (Some Issue) o e p = q
   proper-step s x q (Some PayIn) o e p = q
   proper-step s x q None o e p = q
@@ -57,13 +62,20 @@ module _ (h : Rulebook) where
         giver-low = λ d. elim d as (λ d. giver d (terms_of x) < 64) [ securities ↦ seller | cash ↦ buyer ];
         taker-low = λ d. elim d as (λ d. taker d (terms_of x) < 64) [ securities ↦ buyer | cash ↦ seller ];
         apart = eqb-false _ _ c.0;
-        asset-low = λ d. elim d as (λ d. asset d (terms_of x) < (h.book_kind d).items) [ securities ↦ leb-false _ _ items.0 | cash ↦ leb-false _ _ items.1 ];
-        some-volume = λ d. elim d as (λ d. 0 < volume d (terms_of x)) [ securities ↦ (let z = eqb-false x.quantity 0 some.0 in omega arith) | cash ↦ (let z = eqb-false x.amount 0 some.1 in omega arith) ];
+        asset-low = λ d. elim d as (λ d. asset d (terms_of x) < (h.book_kind d).items)
+            [ securities ↦ leb-false _ _ items.0 | cash ↦ leb-false _ _ items.1 ];
+        some-volume = λ d. elim d as (λ d. 0 < volume d (terms_of x)) [
+          | securities ↦ (let z = eqb-false x.quantity 0 some.0 in omega arith)
+          | cash ↦
+              (let z = eqb-false x.amount 0 some.1 in omega arith)
+        ];
       })
   proper-step s x q k o e p =
-      set-on (Proper h) s.state s.terms q x.trade o _ e (was-entered h k o refl (right h k o (s.terms x.trade) s x tt p).from)
+      set-on (Proper h) s.state s.terms q x.trade o _ e
+      (was-entered h k o refl (right h k o (s.terms x.trade) s x tt p).from)
 
-  proper : {xs : List Instruction} {s : Standing} → Runs h xs s → (t : ℕ) → (s.state t ≡ Unentered) ⊎ Proper h (s.terms t)
+  proper : {xs : List Instruction} {s : Standing} → Runs h xs s → (t : ℕ)
+      → (s.state t ≡ Unentered) ⊎ Proper h (s.terms t)
   proper start t = inl refl
   proper (more {s = s} x r e) t = proper-step s x (proper r) (kind_at x.kind) (s.state x.trade) refl e t
 
@@ -72,12 +84,16 @@ module _ (h : Rulebook) where
   unentered-blocks-none cash = refl
 
   -- what a trade has blocked is there
-  blocked-there : {xs : List Instruction} {s : Standing} → Runs h xs s → (d : Side) (t : ℕ) (o : State) → t < 128 → s.state t ≡ o → has_blocked d o ≡ true → volume d (s.terms t) ≤ (s.book d).blocked (giver d (s.terms t)) (asset d (s.terms t))
+  blocked-there : {xs : List Instruction} {s : Standing} → Runs h xs s → (d : Side) (t : ℕ) (o : State) → t < 128
+      → s.state t ≡ o → has_blocked d o ≡ true → volume d (s.terms t) ≤ (s.book d).blocked (giver d (s.terms t))
+      (asset d (s.terms t))
   blocked-there {xs} {s} r d t o l e ho =
       let m = s.terms t in
       let f = fair h r d (giver d m) (asset d m) in
-      let q = covers d (s.book d) s.state s.terms (credits (giver d m) (asset d m) d xs) (giver d m) (asset d m) t o Unentered l e f ho (unentered-blocks-none d) in
-      let w : amount_if (is_place (giver d m) (asset d m) (giver d m) (asset d m)) (volume d m) ≡ volume d m = rw (eq-eqb (giver d m) (giver d m) refl, eq-eqb (asset d m) (asset d m) refl) in
+      let q = covers d (s.book d) s.state s.terms (credits (giver d m) (asset d m) d xs) (giver d m)
+      (asset d m) t o Unentered l e f ho (unentered-blocks-none d) in
+      let w : amount_if (is_place (giver d m) (asset d m) (giver d m) (asset d m)) (volume d m) ≡ volume d m = rw
+      (eq-eqb (giver d m) (giver d m) refl, eq-eqb (asset d m) (asset d m) refl) in
       omega (arith, q, w)
 
 pub safe : (h : Rulebook) (xs : List Instruction) (s : Standing) → Runs h xs s → Safe h s

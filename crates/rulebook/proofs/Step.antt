@@ -22,7 +22,8 @@ pub record Fair (d : Side) (b : Holdings) (st : ℕ → State) (tm : ℕ → Ter
   pub part : b.blocked a i ≡ over (hold_of d a i) st tm
 
 -- one trade goes from old to new: what its side of a book does
-module _ (d : Side) (b : Holdings) (st : ℕ → State) (tm : ℕ → Terms) (cr a i t : ℕ) (old new : State) (l : t < 128) (e : st t ≡ old) (h : Fair d b st tm cr a i) where
+module _ (d : Side) (b : Holdings) (st : ℕ → State) (tm : ℕ → Terms) (cr a i t : ℕ) (old new : State) (l : t < 128)
+    (e : st t ≡ old) (h : Fair d b st tm cr a i) where
   -- what the trade counts for, as giver and as taker
   abbrev out : Terms → ℕ
   out m = amount_if (is_place (giver d m) (asset d m) a i) (volume d m)
@@ -31,14 +32,17 @@ module _ (d : Side) (b : Holdings) (st : ℕ → State) (tm : ℕ → Terms) (cr
   inn m = amount_if (is_place (taker d m) (asset d m) a i) (volume d m)
 
   -- nothing is blocked or released
-  pub blocks-same : (blocked : Bool) → is_settled old ≡ false → is_settled new ≡ false → has_blocked d old ≡ blocked → has_blocked d new ≡ blocked → Fair d b (updated st t new) tm cr a i
+  pub blocks-same : (blocked : Bool) → is_settled old ≡ false → is_settled new ≡ false → has_blocked d old ≡ blocked
+      → has_blocked d new ≡ blocked → Fair d b (updated st t new) tm cr a i
   blocks-same blocked so sn ho hn =
       let g = shift-if is_settled out st tm t old new false false so sn e l in
       let k = shift-if is_settled inn st tm t old new false false so sn e l in
       let m = shift-if (has_blocked d) out st tm t old new blocked blocked ho hn e l in
       record { whole = omega (arith, h.whole, g, k); part = omega (arith, h.part, m) }
 
-  pub blocks : is_settled old ≡ false → is_settled new ≡ false → has_blocked d old ≡ false → has_blocked d new ≡ true → volume d (tm t) ≤ b.free (giver d (tm t)) (asset d (tm t)) → Fair d (apply b (blocking (giver d (tm t)) (asset d (tm t)) (volume d (tm t)))) (updated st t new) tm cr a i
+  pub blocks : is_settled old ≡ false → is_settled new ≡ false → has_blocked d old ≡ false
+      → has_blocked d new ≡ true → volume d (tm t) ≤ b.free (giver d (tm t)) (asset d (tm t))
+      → Fair d (apply b (blocking (giver d (tm t)) (asset d (tm t)) (volume d (tm t)))) (updated st t new) tm cr a i
   blocks so sn ho hn q =
       let g = shift-if is_settled out st tm t old new false false so sn e l in
       let k = shift-if is_settled inn st tm t old new false false so sn e l in
@@ -46,14 +50,18 @@ module _ (d : Side) (b : Holdings) (st : ℕ → State) (tm : ℕ → Terms) (cr
       let n = enough b.free (giver d (tm t)) (asset d (tm t)) (volume d (tm t)) a i q in
       record { whole = omega (arith, h.whole, g, k, n); part = omega (arith, h.part, m) }
 
-  pub releases : is_settled old ≡ false → is_settled new ≡ false → has_blocked d old ≡ true → has_blocked d new ≡ false → Fair d (apply b (releasing (giver d (tm t)) (asset d (tm t)) (volume d (tm t)))) (updated st t new) tm cr a i
+  pub releases : is_settled old ≡ false → is_settled new ≡ false → has_blocked d old ≡ true
+      → has_blocked d new ≡ false → Fair d (apply b (releasing (giver d (tm t)) (asset d (tm t)) (volume d (tm t))))
+      (updated st t new) tm cr a i
   releases so sn ho hn =
       let g = shift-if is_settled out st tm t old new false false so sn e l in
       let k = shift-if is_settled inn st tm t old new false false so sn e l in
       let m = shift-if (has_blocked d) out st tm t old new true false ho hn e l in
       record { whole = omega (arith, h.whole, h.part, g, k, m); part = omega (arith, h.part, m) }
 
-  pub moves : is_settled old ≡ false → is_settled new ≡ true → has_blocked d old ≡ true → has_blocked d new ≡ false → Fair d (apply b (moving (giver d (tm t)) (taker d (tm t)) (asset d (tm t)) (volume d (tm t)))) (updated st t new) tm cr a i
+  pub moves : is_settled old ≡ false → is_settled new ≡ true → has_blocked d old ≡ true → has_blocked d new ≡ false
+      → Fair d (apply b (moving (giver d (tm t)) (taker d (tm t)) (asset d (tm t)) (volume d (tm t))))
+      (updated st t new) tm cr a i
   moves so sn ho hn =
       let g = shift-if is_settled out st tm t old new false true so sn e l in
       let k = shift-if is_settled inn st tm t old new false true so sn e l in
@@ -67,17 +75,22 @@ module _ (d : Side) (b : Holdings) (st : ℕ → State) (tm : ℕ → Terms) (cr
       omega (arith, h.part, m)
 
 -- a trade that is entered, from a state that counts for nothing
-pub entering : (d : Side) (b : Holdings) (st : ℕ → State) (tm : ℕ → Terms) (cr a i t : ℕ) (old : State) (m : Terms) → Idle d old → Idle d Entered → st t ≡ old → Fair d b st tm cr a i → Fair d b (updated st t Entered) (updated tm t m) cr a i
+pub entering : (d : Side) (b : Holdings) (st : ℕ → State) (tm : ℕ → Terms) (cr a i t : ℕ) (old : State) (m : Terms)
+    → Idle d old → Idle d Entered → st t ≡ old → Fair d b st tm cr a i
+    → Fair d b (updated st t Entered) (updated tm t m) cr a i
 entering d b st tm cr a i t old m io ie e h =
     let g = enters (give_of d a i) old (λ m. rw io.unsettled) (λ m. refl) st tm t m e in
     let k = enters (take_of d a i) old (λ m. rw io.unsettled) (λ m. refl) st tm t m e in
     let n = enters (hold_of d a i) old (λ m. rw io.none-blocked) (λ m. rw ie.none-blocked) st tm t m e in
     record { whole = omega arith; part = omega arith }
 
-pub credited : (d : Side) (b : Holdings) (st : ℕ → State) (tm : ℕ → Terms) (cr a i A I q n : ℕ) → n ≡ amount_if (is_place A I a i) q → Fair d b st tm cr a i → Fair d (apply b (crediting A I q)) st tm (cr + n) a i
+pub credited : (d : Side) (b : Holdings) (st : ℕ → State) (tm : ℕ → Terms) (cr a i A I q n : ℕ)
+    → n ≡ amount_if (is_place A I a i) q → Fair d b st tm cr a i
+    → Fair d (apply b (crediting A I q)) st tm (cr + n) a i
 credited d b st tm cr a i A I q n e h = record { whole = omega (arith, h.whole); part = h.part }
 
-pub uncredited : (d : Side) (b : Holdings) (st : ℕ → State) (tm : ℕ → Terms) (cr a i n : ℕ) → n ≡ 0 → Fair d b st tm cr a i → Fair d b st tm (cr + n) a i
+pub uncredited : (d : Side) (b : Holdings) (st : ℕ → State) (tm : ℕ → Terms) (cr a i n : ℕ) → n ≡ 0
+    → Fair d b st tm cr a i → Fair d b st tm (cr + n) a i
 uncredited d b st tm cr a i n e h = record { whole = omega (arith, h.whole); part = h.part }
 
 settled-blocks-none : (d : Side) → has_blocked d Settled ≡ false
@@ -102,13 +115,17 @@ module _ (h : Rulebook) (s : Standing) (x : Instruction) (a i : ℕ) where
   Accepted k o = first_refusal (all_checks h k o m s x) ≡ Ok tt
 
   abbrev Next : Act → Side → State → ℕ → Type 0
-  Next k d o cr = Fair d (apply (s.book d) (deed k d o m x)) (states_after (state_after k) s.state x.trade) (terms_after (is_enter k) s.terms x) cr a i
+  Next k d o cr = Fair d (apply (s.book d) (deed k d o m x)) (states_after (state_after k) s.state x.trade)
+      (terms_after (is_enter k) s.terms x) cr a i
 
-  pub fair-step : (k : Act) (d : Side) (o : State) (cr n : ℕ) → n ≡ credited_by k d x a i → Fair d (s.book d) s.state s.terms cr a i → s.state x.trade ≡ o → Accepted k o → Next k d o (cr + n)
-  fair-step (Some Issue) securities o cr n c f e p = credited securities (s.book securities) s.state s.terms cr a i x.account x.item x.quantity n c f
+  pub fair-step : (k : Act) (d : Side) (o : State) (cr n : ℕ) → n ≡ credited_by k d x a i
+      → Fair d (s.book d) s.state s.terms cr a i → s.state x.trade ≡ o → Accepted k o → Next k d o (cr + n)
+  fair-step (Some Issue) securities o cr n c f e p = credited securities
+      (s.book securities) s.state s.terms cr a i x.account x.item x.quantity n c f
   fair-step (Some Issue) cash o cr n c f e p = uncredited _ _ _ _ _ _ _ n c f
   fair-step (Some PayIn) securities o cr n c f e p = uncredited _ _ _ _ _ _ _ n c f
-  fair-step (Some PayIn) cash o cr n c f e p = credited cash (s.book cash) s.state s.terms cr a i x.account x.currency x.amount n c f
+  fair-step (Some PayIn) cash o cr n c f e p = credited cash
+      (s.book cash) s.state s.terms cr a i x.account x.currency x.amount n c f
   fair-step None d o cr n c f e p = uncredited _ _ _ _ _ _ _ n c f
   fair-step (Some Enter) d o cr n c f e p =
       let r = right h (Some Enter) o m s x tt p in
@@ -116,29 +133,41 @@ module _ (h : Rulebook) (s : Standing) (x : Instruction) (a i : ℕ) where
   fair-step (Some Earmark) securities o cr n c f e p =
       let r = right h (Some Earmark) o m s x tt p in
       let w = earmark-idle h securities o r.from in
-      uncredited _ _ _ _ _ _ _ n c (blocks securities (s.book securities) s.state s.terms cr a i x.trade o Earmarked r.low e f w.unsettled refl w.none-blocked refl (ltb-false _ _ (cleared h m s x (Some Earmark) o p).1.1.1.1.0))
+      uncredited _ _ _ _ _ _ _ n c (blocks securities
+      (s.book securities) s.state s.terms cr a i x.trade o Earmarked r.low e f w.unsettled refl w.none-blocked
+      refl (ltb-false _ _ (cleared h m s x (Some Earmark) o p).1.1.1.1.0))
   fair-step (Some Earmark) cash o cr n c f e p =
       let r = right h (Some Earmark) o m s x tt p in
       let w = earmark-idle h cash o r.from in
-      uncredited _ _ _ _ _ _ _ n c (blocks-same cash (s.book cash) s.state s.terms cr a i x.trade o Earmarked r.low e f false w.unsettled refl w.none-blocked refl)
+      uncredited _ _ _ _ _ _ _ n c (blocks-same cash
+      (s.book cash) s.state s.terms cr a i x.trade o Earmarked r.low e f false w.unsettled refl w.none-blocked
+      refl)
   fair-step (Some Fund) securities o cr n c f e p =
       let r = right h (Some Fund) o m s x tt p in
       let w = fund-from h o r.from in
-      uncredited _ _ _ _ _ _ _ n c (blocks-same securities (s.book securities) s.state s.terms cr a i x.trade o Funded r.low e f true w.2 refl w.0 refl)
+      uncredited _ _ _ _ _ _ _ n c (blocks-same securities
+      (s.book securities) s.state s.terms cr a i x.trade o Funded r.low e f true w.2 refl w.0 refl)
   fair-step (Some Fund) cash o cr n c f e p =
       let r = right h (Some Fund) o m s x tt p in
       let w = fund-from h o r.from in
-      uncredited _ _ _ _ _ _ _ n c (blocks cash (s.book cash) s.state s.terms cr a i x.trade o Funded r.low e f w.2 refl w.1 refl (ltb-false _ _ (cleared h m s x (Some Fund) o p).1.1.1.1.0))
+      uncredited _ _ _ _ _ _ _ n c (blocks cash
+      (s.book cash) s.state s.terms cr a i x.trade o Funded r.low e f w.2 refl w.1 refl
+      (ltb-false _ _ (cleared h m s x (Some Fund) o p).1.1.1.1.0))
   fair-step (Some Settle) d o cr n c f e p =
       let r = right h (Some Settle) o m s x tt p in
       let w = settle-from h d o r.from in
-      uncredited _ _ _ _ _ _ _ n c (moves d (s.book d) s.state s.terms cr a i x.trade o Settled r.low e f w.1 refl w.0 (settled-blocks-none d))
+      uncredited _ _ _ _ _ _ _ n c (moves d
+      (s.book d) s.state s.terms cr a i x.trade o Settled r.low e f w.1 refl w.0 (settled-blocks-none d))
   fair-step (Some Free) d o cr n c f e p =
       let r = right h (Some Free) o m s x tt p in
       let w = free-from h o r.from in
       uncredited _ _ _ _ _ _ _ n c
-      (⊎_elim (λ (y : has_blocked d o ≡ true). subst (λ v. Fair d (apply (s.book d) (cond v (releasing (giver d m) (asset d m) (volume d m)) no_change)) (updated s.state x.trade Freed) s.terms cr a i) (sym y)
+      (⊎_elim (λ (y : has_blocked d o ≡ true). subst
+      (λ v. Fair d (apply (s.book d) (cond v (releasing (giver d m) (asset d m) (volume d m)) no_change))
+      (updated s.state x.trade Freed) s.terms cr a i) (sym y)
       (releases d (s.book d) s.state s.terms cr a i x.trade o Freed r.low e f w refl y (freed-blocks-none d)))
-      (λ (y : has_blocked d o ≡ false). subst (λ v. Fair d (apply (s.book d) (cond v (releasing (giver d m) (asset d m) (volume d m)) no_change)) (updated s.state x.trade Freed) s.terms cr a i) (sym y)
+      (λ (y : has_blocked d o ≡ false). subst (λ v. Fair d
+      (apply (s.book d) (cond v (releasing (giver d m) (asset d m) (volume d m)) no_change))
+      (updated s.state x.trade Freed) s.terms cr a i) (sym y)
       (blocks-same d (s.book d) s.state s.terms cr a i x.trade o Freed r.low e f false w refl y (freed-blocks-none d)))
       (cases_Bool (has_blocked d o)))

@@ -36,7 +36,8 @@ free o = tt
 
 only : (o p : State) (n : ℕ) → next_state (kind_at n) o ≡ Some p → TradeSteps o n p
 only o p n e =
-    rw e at (by-byte (λ k n. Leads (next_state k o) o n) tt tt (enter o) (earmark o) (fund o) (settle o) (free o) (λ n h. tt) n)
+    rw e at (by-byte (λ k n. Leads (next_state k o) o n) tt tt (enter o) (earmark o) (fund o) (settle o) (free o)
+    (λ n h. tt) n)
 
 each : (o p : State) (n : ℕ) → TradeSteps o n p → next_state (kind_at n) o ≡ Some p
 each o p n enters = refl

@@ -7,15 +7,15 @@ use Rattle.rulebook.specs.declared.State.TheVariants.{Unentered}
 use Rattle.rulebook.specs.Terms.{Side}
 use Rattle.rulebook.specs.Table.{TradeSteps}
 use Rattle.rulebook.specs.Rules.{Rulebook, Standing, Runs, IsReachable, answer, step, deed}
-use Rattle.rulebook.specs.Tally.{credits, gifts, receipts, holds}
+use Rattle.rulebook.specs.Tally.{credits, outflows, inflows, holds}
 use Rattle.rulebook.specs.Words.{IsOn, IsEnterOn, HasNo, IsLast, IsStateAfter, StatesTerms}
 
 -- For account a and item i of side d's book, the amounts add up.
 pub record AddsUp (d : Side) (xs : List Instruction) (s : Standing) (a i : ℕ) : Type 0 where
-  -- what is free, what is blocked and what the account gave, is what it was credited and received
+  -- free and blocked, and what trades took away, are what was credited and what trades brought
   pub whole :
-      (s.book d).free a i + (s.book d).blocked a i + gifts a i d s
-      ≡ credits a i d xs + receipts a i d s
+      (s.book d).free a i + (s.book d).blocked a i + outflows a i d s
+      ≡ credits a i d xs + inflows a i d s
   -- what is blocked is what trades hold
   pub blocked-part : (s.book d).blocked a i ≡ holds a i d s
 

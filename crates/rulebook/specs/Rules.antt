@@ -51,7 +51,7 @@ abbrev pub knows_kind : Rulebook → Act → Bool
 knows_kind h None = false
 knows_kind h (Some k) = true
 
--- a field that the kind does not use is not 0
+-- a field is filled that the kind has no use for
 abbrev pub stray : Act → Instruction → Bool
 stray (Some k) x = has_stray k x
 stray None x = false
@@ -89,7 +89,7 @@ module _ (h : Rulebook) where
   checks_of (Some Free) o m s x = trade_checks (Some Free) 35 o x []
   checks_of None o m s x = []
 
-  -- all checks in their order: the kind, fields that it does not use, those of the kind
+  -- all checks in their order: the kind is known, no field is filled for nothing, those of the kind
   abbrev pub all_checks : Act → State → Terms → Standing → Instruction → List Check
   all_checks k o m s x =
       not (knows_kind h k) refuses 32 ∷ stray k x refuses 31 ∷ checks_of k o m s x

@@ -1,4 +1,4 @@
--- The sums of the law: what an account was credited, gave and received, and what its trades hold.
+-- The sums of the law: what was credited to an account, what trades took and brought, what they hold.
 use Rattle.std.specs.Prelude.{ℕ, if◌then◌else◌, List, sum_by, ◌==◌}
 use Rattle.std.specs.List.{range_with_len}
 use Rattle.instruction.specs.declared.Instruction.{Instruction}
@@ -24,17 +24,17 @@ module _ (account item : ℕ) where
   credit securities x = if x.kind == 1 then share x.account x.item x.quantity else 0
   credit cash x = if x.kind == 2 then share x.account x.currency x.amount else 0
 
-  -- what the account gave in a settled trade: the seller the quantity, the buyer the amount
-  abbrev pub gift : Side → State → Terms → ℕ
-  gift securities Settled m = share m.seller m.item m.quantity
-  gift cash Settled m = share m.buyer m.currency m.amount
-  gift d o m = 0
+  -- what left the account in a settled trade: for the seller the quantity, for the buyer the amount
+  abbrev pub outflow : Side → State → Terms → ℕ
+  outflow securities Settled m = share m.seller m.item m.quantity
+  outflow cash Settled m = share m.buyer m.currency m.amount
+  outflow d o m = 0
 
-  -- what it received in one: the buyer the quantity, the seller the amount
-  abbrev pub receipt : Side → State → Terms → ℕ
-  receipt securities Settled m = share m.buyer m.item m.quantity
-  receipt cash Settled m = share m.seller m.currency m.amount
-  receipt d o m = 0
+  -- what came in: for the buyer the quantity, for the seller the amount
+  abbrev pub inflow : Side → State → Terms → ℕ
+  inflow securities Settled m = share m.buyer m.item m.quantity
+  inflow cash Settled m = share m.seller m.currency m.amount
+  inflow d o m = 0
 
   -- what an open trade holds blocked: earmarked, the seller's quantity; funded, the buyer's amount too
   abbrev pub hold : Side → State → Terms → ℕ
@@ -48,11 +48,11 @@ module _ (account item : ℕ) where
   credits d xs = sum_by (λ x. credit d x) xs
 
   -- over all trades, each in the state and on the terms in which it stands
-  abbrev pub gifts : Side → Standing → ℕ
-  gifts d s = sum_by (λ t. gift d (s.state t) (s.terms t)) trades
+  abbrev pub outflows : Side → Standing → ℕ
+  outflows d s = sum_by (λ t. outflow d (s.state t) (s.terms t)) trades
 
-  abbrev pub receipts : Side → Standing → ℕ
-  receipts d s = sum_by (λ t. receipt d (s.state t) (s.terms t)) trades
+  abbrev pub inflows : Side → Standing → ℕ
+  inflows d s = sum_by (λ t. inflow d (s.state t) (s.terms t)) trades
 
   abbrev pub holds : Side → Standing → ℕ
   holds d s = sum_by (λ t. hold d (s.state t) (s.terms t)) trades

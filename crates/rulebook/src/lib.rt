@@ -1,8 +1,8 @@
 //! The rule book: trades, their states, and the rules of settlement.
 //!
-//! The rules are those of Model 1 in the CPSS report *Delivery Versus Payment in Securities Settlement
-//! Systems* (1992): a trade's securities and its cash move together, each trade by itself and in full.
-//! There is no netting, no lending and no undo.
+//! The rules are those of Model 1 in the CPSS report of 1992, *Delivery Versus Payment in Securities
+//! Settlement Systems*: each trade settles by itself and in full, its securities against its cash. There
+//! is no netting, no lending and no undo.
 //!
 //! The code holds a trade and the table of its states: `Trade::next_state` promises that table. The rules
 //! stand in `specs/`: `Rules` says what an instruction is answered and what it changes, and `Law`, in

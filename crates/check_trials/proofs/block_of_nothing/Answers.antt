@@ -7,4 +7,5 @@ use Rattle.check_trials.proofs.Rows.{block-of-nothing}
 use Rattle.check_trials.proofs.block_of_nothing.Goals as goal
 
 pub returns : goal.returns
-returns c = c.answer_number.ensures ∙ ap answer_number (c.block.ensures.answer ∙ ap (λ b. ruling balances_kind b (blocking 0 0 1)) c.new-book.ensures) ∙ block-of-nothing 0 0 (lit< tt) (lit< tt)
+returns c = c.answer_number.ensures ∙ ap answer_number (c.block.ensures.answer ∙ ap
+    (λ b. ruling balances_kind b (blocking 0 0 1)) c.new-book.ensures) ∙ block-of-nothing 0 0 (lit< tt) (lit< tt)

@@ -7,4 +7,5 @@ invariant_of-self g c = search (rules, reachable-empty)
 
 pub returns : goal.returns
 returns g c =
-    stands g.R.Book g.C.Book c.clear.new.self g.met.R.Book.nothing_outside g.met.C.Book.nothing_outside refl ∙ c.clear.ensures
+    stands g.R.Book g.C.Book c.clear.new.self g.met.R.Book.nothing_outside g.met.C.Book.nothing_outside refl
+    ∙ c.clear.ensures

@@ -7,6 +7,8 @@ use Rattle.ledger.proofs.Ledger.money.Goals as goal
 pub returns : goal.returns
 returns g c =
     let h = rulebook_of g.R.Book.book_kind g.C.Book.book_kind in
-    let e = stands g.R.Book g.C.Book c.self.inside.parts g.met.R.Book.nothing_outside g.met.C.Book.nothing_outside c.self.view_is in
-    let a : c.holding.result ≡ holding_question h (standing_in g.R.Book g.C.Book c.self.inside.parts) cash c.args.account c.args.currency = search rules in
+    let e = stands g.R.Book g.C.Book c.self.inside.parts g.met.R.Book.nothing_outside g.met.C.Book.nothing_outside
+    c.self.view_is in
+    let a : c.holding.result ≡ holding_question h
+    (standing_in g.R.Book g.C.Book c.self.inside.parts) cash c.args.account c.args.currency = search rules in
     a ∙ ap (λ s. holding_question h s cash c.args.account c.args.currency) (sym e)
