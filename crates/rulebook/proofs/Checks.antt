@@ -26,7 +26,7 @@ not-false : (b : Bool) → not b ≡ false → b ≡ true
 not-false true e = refl
 not-false false e = sym e
 
--- an accepted instruction of a trade: its number and its state before are right
+-- an accepted instruction on a trade: there is a trade with this number, and its state is one to start from
 pub record Right (h : Rulebook) (k : Act) (o : State) (x : Instruction) : Type 0 where
   pub low : x.trade < 128
   pub from : may_start k o ≡ true
@@ -55,7 +55,7 @@ pub entered-idle : (d : Side) → Idle d Entered
 entered-idle securities = record { none-blocked = refl; unsettled = refl }
 entered-idle cash = record { none-blocked = refl; unsettled = refl }
 
--- Earmark blocks securities only, Fund cash only
+-- an Earmark starts where nothing is blocked, a Fund where securities are, a Settle where both are
 pub earmark-idle : (h : Rulebook) (d : Side) (o : State) → may_start (Some Earmark) o ≡ true → Idle d o
 earmark-idle h d o e = record { none-blocked = grind arith; unsettled = grind arith }
 
@@ -70,10 +70,10 @@ settle-from h d o e = (grind arith, grind arith)
 pub free-from : (h : Rulebook) (o : State) → may_start (Some Free) o ≡ true → is_settled o ≡ false
 free-from h o e = grind arith
 
--- a kind other than Enter starts from no trade that was never entered
+-- no kind but Enter starts from an unentered trade
 pub was-entered : (h : Rulebook) (k : Act) (o : State) → is_enter k ≡ false → may_start k o ≡ true → o ≡ Unentered → ⊥
 was-entered h k o e w z = grind arith
 
--- the kind byte of an Enter
+-- a kind byte is an Enter's where it is the code of Enter
 pub enter-code : (n : ℕ) → is_enter (kind_at n) ≡ eqb n (code_of Enter)
 enter-code n = grind arith

@@ -21,10 +21,10 @@ pub record Fair (d : Side) (b : Holdings) (st : ℕ → State) (tm : ℕ → Ter
   pub whole : b.free a i + b.blocked a i + over (give_of d a i) st tm ≡ cr + over (take_of d a i) st tm
   pub part : b.blocked a i ≡ over (hold_of d a i) st tm
 
--- one trade goes from old to new: what its side of a book does
+-- One trade goes from state old to new, and one side's book does what belongs to that.
 module _ (d : Side) (b : Holdings) (st : ℕ → State) (tm : ℕ → Terms) (cr a i t : ℕ) (old new : State) (l : t < 128)
     (e : st t ≡ old) (h : Fair d b st tm cr a i) where
-  -- what the trade counts for, as giver and as taker
+  -- what the trade adds to the sums where the account gives, and where it takes
   abbrev out : Terms → ℕ
   out m = amount_if (is_place (giver d m) (asset d m) a i) (volume d m)
 
@@ -68,13 +68,13 @@ module _ (d : Side) (b : Holdings) (st : ℕ → State) (tm : ℕ → Terms) (cr
       let m = shift-if (has_blocked d) out st tm t old new true false ho hn e l in
       record { whole = omega (arith, h.whole, h.part, g, k, m); part = omega (arith, h.part, m) }
 
-  -- Settle and Free find enough blocked
+  -- a Settle and a Free find enough blocked
   pub covers : has_blocked d old ≡ true → has_blocked d new ≡ false → out (tm t) ≤ b.blocked a i
   covers ho hn =
       let m = shift-if (has_blocked d) out st tm t old new true false ho hn e l in
       omega (arith, h.part, m)
 
--- a trade that is entered, from a state that counts for nothing
+-- a trade is entered, from a state that adds nothing
 pub entering : (d : Side) (b : Holdings) (st : ℕ → State) (tm : ℕ → Terms) (cr a i t : ℕ) (old : State) (m : Terms)
     → Idle d old → Idle d Entered → st t ≡ old → Fair d b st tm cr a i
     → Fair d b (updated st t Entered) (updated tm t m) cr a i
@@ -101,7 +101,7 @@ freed-blocks-none : (d : Side) → has_blocked d Freed ≡ false
 freed-blocks-none securities = refl
 freed-blocks-none cash = refl
 
--- what an instruction of a kind credits
+-- what an instruction of kind k credits
 abbrev pub credited_by : Act → Side → Instruction → ℕ → ℕ → ℕ
 credited_by (Some Issue) securities x a i = amount_if (is_place x.account x.item a i) x.quantity
 credited_by (Some PayIn) cash x a i = amount_if (is_place x.account x.currency a i) x.amount
