@@ -1,4 +1,5 @@
--- An answer of 13 to an instruction: no check gives it, and the writing of an entry gives no other refusal.
+-- An answer of 13 to an instruction: no check gives it, and the writing of an entry gives no
+-- other refusal.
 use Rattle.std.proofs.Common.{◌≡◌, ℕ, zero, suc, ◌<◌, leb, Bool, true, false, cond, not, ◌&&◌, eqb, List, [], ◌∷◌, Some, None, Ok, Err, Option, Result, sym, refl, ap, ◌∙◌, subst, arith}
 use Rattle.std.proofs.lemmas.Bool.{and_parts, cond-false, lt-leb, eqb-true, both_ways, eq-eqb}
 use Rattle.refusals.specs.declared.Refusal.{Refusal}
@@ -20,7 +21,7 @@ use Rattle.journal.specs.Journal.{record_at, mark_at, write_entry_answer}
 use Rattle.engine.specs.declared.engine.Mode.{Mode}
 use Rattle.engine.specs.declared.engine.Mode.TheVariants.{Open, Down, Refused}
 use Rattle.engine.specs.View.{View}
-use Rattle.engine.specs.Instructing.{ready, room_for, check_answer, within_entry, Leaves, TakesInstruction, Passes, IsFaultOf, cut_at, CutShort}
+use Rattle.engine.specs.Instructing.{if_open, room_answer, check_answer, within_entry, Leaves, TakesInstruction, Passes, IsFaultOf, block_without_call, TellsWhenDown}
 use Rattle.engine.proofs.Refusals.{same-fault, names-by-kind}
 use Rattle.engine.proofs.Instructs.{let-pass}
 
@@ -76,21 +77,21 @@ room-calm-as : (b : Bool) (x : Instruction) (f : Fault) → ◌≡◌ {A = Answe
 room-calm-as true x f e = let q : fault_of x JournalFull ≡ f = cc in subst (λ g. is13 g.refusal ≡ false) q (ap is13 (fault-refusal x JournalFull))
 room-calm-as false x f e = absurd cc
 
-room-calm : (x : Instruction) (v : View) (f : Fault) → room_for x v ≡ Err f → is13 f.refusal ≡ false
+room-calm : (x : Instruction) (v : View) (f : Fault) → room_answer x v ≡ Err f → is13 f.refusal ≡ false
 room-calm x v f e = room-calm-as (leb v.pairs v.entry_count) x f e
 
 then-calm : (a b : Answer) (f : Fault) → ((g : Fault) → a ≡ Err g → is13 g.refusal ≡ false) → ((g : Fault) → b ≡ Err g → is13 g.refusal ≡ false) → and_then a b ≡ Err f → is13 f.refusal ≡ false
 then-calm (Ok u) b f p q e = q f e
 then-calm (Err g) b f p q e = p f e
 
-ready-calm : (m : Mode) (x : Instruction) (a : Answer) (f : Fault) → ((g : Fault) → a ≡ Err g → is13 g.refusal ≡ false) → ready m x a ≡ Err f → is13 f.refusal ≡ false
+ready-calm : (m : Mode) (x : Instruction) (a : Answer) (f : Fault) → ((g : Fault) → a ≡ Err g → is13 g.refusal ≡ false) → if_open m x a ≡ Err f → is13 f.refusal ≡ false
 ready-calm Open x a f p e = p f e
 ready-calm (Down y) x a f p e = let q : fault_of x EngineDown ≡ f = cc in subst (λ g. is13 g.refusal ≡ false) q (ap is13 (fault-refusal x EngineDown))
 ready-calm (Refused g) x a f p e = let q : fault_of x OpeningRefused ≡ f = cc in subst (λ g. is13 g.refusal ≡ false) q (ap is13 (fault-refusal x OpeningRefused))
 
 -- no check of an instruction is answered 13
 pub checked-calm : (h : Rulebook) (x : Instruction) (v : View) (f : Fault) → check_answer h x v ≡ Err f → is13 f.refusal ≡ false
-checked-calm h x v f e = ready-calm v.mode x (and_then (fault_answer h v.standing x) (room_for x v)) f (λ g q. then-calm (fault_answer h v.standing x) (room_for x v) g (verdict-calm h v.standing x) (room-calm x v) q) e
+checked-calm h x v f e = ready-calm v.mode x (and_then (fault_answer h v.standing x) (room_answer x v)) f (λ g q. then-calm (fault_answer h v.standing x) (room_answer x v) g (verdict-calm h v.standing x) (room-calm x v) q) e
 
 -- the four calls of an entry stop with 13, where fewer than four are left
 pub enter-cut : (m : Medium) (k : ℕ) (f : Fault) → write_entry_answer m k ≡ Err f → (is13 f.refusal ≡ true) × (m.calls_left < 4)
@@ -102,8 +103,8 @@ enter-done m k e = grind (arith, e)
 -- what the checks ask for is all that they ask for
 pub passes : {h : Rulebook} {x : Instruction} {v : View} → Passes h x v → check_answer h x v ≡ Ok tt
 passes {h} {x} {v} p =
-    ap (λ (m : Mode). ready m x (and_then (fault_answer h v.standing x) (room_for x v))) p.mode
-    ∙ ap (λ r. and_then (with_trade x r) (room_for x v)) p.accepted
+    ap (λ (m : Mode). if_open m x (and_then (fault_answer h v.standing x) (room_answer x v))) p.mode
+    ∙ ap (λ r. and_then (with_trade x r) (room_answer x v)) p.accepted
     ∙ cond-false (leb v.pairs v.entry_count) _ _ (lt-leb v.pairs v.entry_count p.room)
 
 -- what a fault of the checks, or of the writing, names
@@ -132,15 +133,15 @@ then-says : (x : Instruction) (a b : Answer) (f : Fault) → (a ≡ Err f → Is
 then-says x (Ok u) b f p q e = q e
 then-says x (Err g) b f p q e = p e
 
-ready-says : (m : Mode) (x : Instruction) (a : Answer) (f : Fault) → (a ≡ Err f → IsFaultOf x None None f) → ready m x a ≡ Err f → IsFaultOf x None None f
+ready-says : (m : Mode) (x : Instruction) (a : Answer) (f : Fault) → (a ≡ Err f → IsFaultOf x None None f) → if_open m x a ≡ Err f → IsFaultOf x None None f
 ready-says Open x a f p e = p e
 ready-says (Down y) x a f p e = says-so x EngineDown f e
 ready-says (Refused g) x a f p e = says-so x OpeningRefused f e
 
 checked-says : (h : Rulebook) (x : Instruction) (v : View) (f : Fault) → check_answer h x v ≡ Err f → IsFaultOf x None None f
 checked-says h x v f e =
-    ready-says v.mode x (and_then (fault_answer h v.standing x) (room_for x v)) f
-    (λ q. then-says x (fault_answer h v.standing x) (room_for x v) f (told-says x (answer h v.standing x) f) (room-says (leb v.pairs v.entry_count) x f) q) e
+    ready-says v.mode x (and_then (fault_answer h v.standing x) (room_answer x v)) f
+    (λ q. then-says x (fault_answer h v.standing x) (room_answer x v) f (told-says x (answer h v.standing x) f) (room-says (leb v.pairs v.entry_count) x f) q) e
 
 -- the answer to the calls of an entry, by the calls left
 abbrev answer_by : ℕ → ℕ → Answer
@@ -148,7 +149,7 @@ answer_by n k =
     cond (eqb n 0) (Err (at_block NoCalls (record_at k))) (cond (eqb n 1) (Err (plain NoCalls)) (cond (eqb n 2) (Err (at_block NoCalls (mark_at k))) (cond (eqb n 3) (Err (plain NoCalls)) (Ok tt))))
 
 record CutSays (n k : ℕ) (f : Fault) : Type 0 where
-  block : f.block ≡ cut_at k n
+  block : f.block ≡ block_without_call k n
   trade : f.trade ≡ None
   rule : f.rule ≡ None
 
@@ -162,7 +163,7 @@ cut-says (suc (suc zero)) k f l e = says-as 2 k (at_block NoCalls (mark_at k)) f
 cut-says (suc (suc (suc zero))) k f l e = says-as 3 k (plain NoCalls) f e (record { block = refl; trade = refl; rule = refl })
 cut-says (suc (suc (suc (suc n)))) k f l e = absurd (omega arith)
 
-within-says : (n k : ℕ) (x : Instruction) (g : Fault) → CutSays n k g → IsFaultOf x (cut_at k n) (Some k) (fault_about x (in_entry k g))
+within-says : (n k : ℕ) (x : Instruction) (g : Fault) → CutSays n k g → IsFaultOf x (block_without_call k n) (Some k) (fault_about x (in_entry k g))
 within-says n k x g s =
     let i = said-of x (Some k) (in_entry k g) (names_trade (kind_at x.kind)) (names-by-kind x.kind) refl s.trade s.rule in
     record { block = i.block ∙ s.block; entry = i.entry; trade = i.trade; rule = i.rule }
@@ -172,7 +173,7 @@ none-is-13 e = omega arith
 
 module _ (h : Rulebook) (x : Instruction) (v v' : View) where
   -- the writing was cut short
-  pub cut-down : Passes h x v → {f : Fault} → write_entry_answer v.medium v.entry_count ≡ Err f → {r : Answer} → r ≡ Err (fault_about x (in_entry v.entry_count f)) → v'.mode ≡ Down x → CutShort h x v v' r
+  pub cut-down : Passes h x v → {f : Fault} → write_entry_answer v.medium v.entry_count ≡ Err f → {r : Answer} → r ≡ Err (fault_about x (in_entry v.entry_count f)) → v'.mode ≡ Down x → TellsWhenDown h x v v' r
   cut-down p {f} ew {r} er down =
       let cut = enter-cut v.medium v.entry_count f ew in
       let is : fault_number r ≡ 13 = ap fault_number er ∙ ap number_of (about-refusal-as (names_trade (kind_at x.kind)) (in_entry v.entry_count f) x.trade) ∙ eqb-true (number_of f.refusal) 13 cut.0 in
@@ -181,13 +182,13 @@ module _ (h : Rulebook) (x : Instruction) (v v' : View) where
         always = λ q l. is;
         hand = λ e. down;
         cut = λ g eg n.
-            subst (λ y. IsFaultOf x (cut_at v.entry_count v.medium.calls_left) (Some v.entry_count) y) (same-fault (fault_about x (in_entry v.entry_count f)) g (sym er ∙ eg))
+            subst (λ y. IsFaultOf x (block_without_call v.entry_count v.medium.calls_left) (Some v.entry_count) y) (same-fault (fault_about x (in_entry v.entry_count f)) g (sym er ∙ eg))
             (within-says v.medium.calls_left v.entry_count x f (cut-says v.medium.calls_left v.entry_count f cut.1 ew));
         check = λ g eg n. absurd (n (ap fault_number (sym eg) ∙ is));
       }
 
   -- by what the checks answer, and what the writing of the entry does
-  cut-by : (c w r : Answer) → check_answer h x v ≡ c → write_entry_answer v.medium v.entry_count ≡ w → r ≡ and_then c (within_entry x v.entry_count w) → Leaves c w x v v' → CutShort h x v v' r
+  cut-by : (c w r : Answer) → check_answer h x v ≡ c → write_entry_answer v.medium v.entry_count ≡ w → r ≡ and_then c (within_entry x v.entry_count w) → Leaves c w x v v' → TellsWhenDown h x v v' r
   cut-by (Err f) w r ec ew er left =
       let calm = checked-calm h x v f ec in
       let other : fault_number r ≡ 13 → ⊥ = λ e. both_ways (is13 f.refusal) calm (eq-eqb (number_of f.refusal) 13 (sym (ap fault_number er) ∙ e)) in
@@ -210,5 +211,5 @@ module _ (h : Rulebook) (x : Instruction) (v v' : View) where
       }
   cut-by (Ok u) (Err f) r ec ew er left = cut-down (let-pass (sym ec)) ew er left.mode
 
-  pub cut-short : {r : Answer} → TakesInstruction h x v v' r → CutShort h x v v' r
+  pub cut-short : {r : Answer} → TakesInstruction h x v v' r → TellsWhenDown h x v v' r
   cut-short {r} i = cut-by (check_answer h x v) (write_entry_answer v.medium v.entry_count) r refl refl i.answer i.after

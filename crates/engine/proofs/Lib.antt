@@ -1,9 +1,7 @@
-pub mod Errors
 pub mod Scans
 pub mod Opens
 pub mod Instructs
 pub mod Cuts
-pub mod Entries
 pub mod Verdicts
 pub mod Finds
 pub mod Openings

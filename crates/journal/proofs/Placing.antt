@@ -64,10 +64,10 @@ header-placed h l =
 pub format-placed : (register cash pairs : ℕ) (m m' : Medium) → pairs < 2 ^ 32 → pairs + 4 < m.calls_left → Formats (header_bytes (header_for_kinds register cash pairs)) pairs m m' → FormatPlaces register cash pairs m m'
 format-placed register cash pairs m m' few calls f =
     record {
-      head = (header_bytes (header_for_kinds register cash pairs), f.headed (omega arith), header-placed (header_for_kinds register cash pairs) few);
+      head = (header_bytes (header_for_kinds register cash pairs), f.new_header (omega arith), header-placed (header_for_kinds register cash pairs) few);
       even = λ j l h. (
         zeros,
-        ap m'.holds (omega arith) ∙ f.unmarked (j - 1) (omega arith) (omega arith),
+        ap m'.holds (omega arith) ∙ f.no_mark (j - 1) (omega arith) (omega arith),
         refl,
         λ i n. zeros-read 256 i,
       );
@@ -79,7 +79,7 @@ format-placed register cash pairs m m' few calls f =
 pub entry-placed : (k : ℕ) (x : Instruction) (m m' : Medium) → k < 2 ^ 32 → 3 < m.calls_left → WritesEntry (record_bytes k x) (mark_bytes k) k m m' → EntryPlaces k x m m'
 entry-placed k x m m' low calls e =
     record {
-      entry = (record_bytes k x, ap m'.holds (omega arith) ∙ e.recorded (omega arith), record-placed k x low);
-      mark = (mark_bytes k, ap m'.holds (omega arith) ∙ e.marked (omega arith), mark-placed k low);
+      entry = (record_bytes k x, ap m'.holds (omega arith) ∙ e.new_record (omega arith), record-placed k x low);
+      mark = (mark_bytes k, ap m'.holds (omega arith) ∙ e.new_mark (omega arith), mark-placed k low);
       others = λ b n p. e.holds b (λ q. n (omega arith)) (λ q. p (omega arith));
     }

@@ -5,7 +5,7 @@ use Rattle.std.proofs.lemmas.List.{length_push, get_or_push, get_or_append_left}
 use Rattle.device.specs.Medium.{Medium}
 use Rattle.device.specs.Calls.{SameBlocks}
 use Rattle.device.specs.Power.{Restart}
-use Rattle.journal.specs.Journal.{JournalBlocks, Firm, mark_at, record_at, Good, Blank, Tail, Says, Journal, WritesEntry}
+use Rattle.journal.specs.Journal.{JournalBlocks, HoldsFirmly, mark_at, record_at, MarkIsGood, MarkIsBlank, TailIs, Says, Journal, WritesEntry}
 
 -- a block that is not loose keeps what it holds, and stays so
 abbrev pub Steady : Medium → Medium → ℕ → Type 0
@@ -17,25 +17,25 @@ steady-restart m n q top r c e = (r.holds c e, r.loose c)
 steady-look : (m n : Medium) → SameBlocks m n → (c : ℕ) → Steady m n c
 steady-look m n r c e = (r.holds c, r.loose c ∙ e)
 
-firm-stays : (m n : Medium) (c : ℕ) (bs : List ℕ) → Steady m n c → Firm m c bs → Firm n c bs
+firm-stays : (m n : Medium) (c : ℕ) (bs : List ℕ) → Steady m n c → HoldsFirmly m c bs → HoldsFirmly n c bs
 firm-stays m n c bs s f = let t = s f.1 in (t.0 ∙ f.0, t.1)
 
 module _ {X : Type 0} (L : JournalBlocks X) where
   -- what an opening that reads all of its journal finds
   pub record Found (m : Medium) (ys : List X) : Type 0 where
     pub room : length ys ≤ L.pairs
-    pub marks : (k : ℕ) → k < length ys → Good L m k
+    pub marks : (k : ℕ) → k < length ys → MarkIsGood L m k
     pub records : (k : ℕ) → k < length ys → (bs : List ℕ) × (m.holds (record_at k) ≡ Some bs) × (L.read k bs ≡ Some (get_or ys k L.blank))
-    pub stop : length ys < L.pairs → Good L m (length ys) → ⊥
+    pub stop : length ys < L.pairs → MarkIsGood L m (length ys) → ⊥
 
-  blank-stays : (m n : Medium) (k : ℕ) → Steady m n (mark_at k) → Blank L m k → Blank L n k
+  blank-stays : (m n : Medium) (k : ℕ) → Steady m n (mark_at k) → MarkIsBlank L m k → MarkIsBlank L n k
   blank-stays m n k s b = let t = s b.1 in (λ g. b.0 (sym t.0 ∙ g), t.1)
 
   says-stays : (m n : Medium) (k : ℕ) (x : X) → Steady m n (record_at k) → Says L m k x → Says L n k x
   says-stays m n k x s f = (f.0, firm-stays m n (record_at k) f.0 s f.1, f.2)
 
   -- all blocks but those of the first unused pair keep what they hold
-  carried : (m n : Medium) (xs : List X) (hand next : Option X) → ((c : ℕ) → (c ≡ record_at (length xs) → ⊥) → (c ≡ mark_at (length xs) → ⊥) → Steady m n c) → Journal L m xs hand → Tail L n (length xs) next → Journal L n xs next
+  carried : (m n : Medium) (xs : List X) (hand next : Option X) → ((c : ℕ) → (c ≡ record_at (length xs) → ⊥) → (c ≡ mark_at (length xs) → ⊥) → Steady m n c) → Journal L m xs hand → TailIs L n (length xs) next → Journal L n xs next
   carried m n xs hand next s j t =
       record {
         head = firm-stays m n 0 L.header (s 0 (omega arith) (omega arith)) j.head;
@@ -46,11 +46,11 @@ module _ {X : Type 0} (L : JournalBlocks X) where
         tail = t;
       }
 
-  retold : (m : Medium) (xs : List X) (hand next : Option X) → Journal L m xs hand → Tail L m (length xs) next → Journal L m xs next
+  retold : (m : Medium) (xs : List X) (hand next : Option X) → Journal L m xs hand → TailIs L m (length xs) next → Journal L m xs next
   retold m xs hand next j t = carried m m xs hand next (λ c a b e. (refl, e)) j t
 
   -- record and mark of one more entry stand
-  one-more : (m : Medium) (xs : List X) (x : X) (hand : Option X) → length xs < L.pairs → Journal L m xs hand → Says L m (length xs) x → Firm m (mark_at (length xs)) (L.mark (length xs)) → Journal L m (xs ++ (x ∷ [])) None
+  one-more : (m : Medium) (xs : List X) (x : X) (hand : Option X) → length xs < L.pairs → Journal L m xs hand → Says L m (length xs) x → HoldsFirmly m (mark_at (length xs)) (L.mark (length xs)) → Journal L m (xs ++ (x ∷ [])) None
   one-more m xs x hand l j f g =
       let p = length_push xs x in
       record {
@@ -73,14 +73,14 @@ module _ {X : Type 0} (L : JournalBlocks X) where
     around c a b f = (e.holds c a b, e.loose c a b f)
 
     recorded : 1 < m.calls_left → Says L n (length xs) x
-    recorded l = (L.entry (length xs) x, (e.recorded (omega arith), e.recorded-firm l), fits)
+    recorded l = (L.entry (length xs) x, (e.new_record (omega arith), e.new_record-firm l), fits)
 
     -- an entry that was cut short is in hand
     pub entry-cut : Journal L m xs None → m.calls_left < 4 → Journal L n xs (Some x)
     entry-cut j l =
         carried m n xs None (Some x) around j (
           room,
-          ⊎_elim (λ (low : m.calls_left < 2). inl (blank-stays m n (length xs) (λ f. (e.unmarked low, e.unmarked-firm low f)) (j.tail room)))
+          ⊎_elim (λ (low : m.calls_left < 2). inl (blank-stays m n (length xs) (λ f. (e.old_mark low, e.old_mark-firm low f)) (j.tail room)))
               (λ (high : 2 ≤ m.calls_left). inr (recorded (omega arith), inl (omega (arith, e.calls_left))))
               (cases_lt m.calls_left 2),
         )
@@ -90,7 +90,7 @@ module _ {X : Type 0} (L : JournalBlocks X) where
     entry-made j l =
         let says = recorded (omega arith) in
         let held = carried m n xs None (Some x) around j (room, inr (says, inr (e.firm l (mark_at (length xs))))) in
-        one-more n xs x (Some x) room held says (e.marked (omega arith), e.firm l (mark_at (length xs)))
+        one-more n xs x (Some x) room held says (e.new_mark (omega arith), e.firm l (mark_at (length xs)))
 
   pub restarting : (m n : Medium) (q top : ℕ) (xs : List X) (hand : Option X) → Journal L m xs hand → Restart m n q top → Journal L n xs hand
   restarting m n q top xs None j r =

@@ -1,6 +1,6 @@
--- Blocks are read back as they were written, and no mark is blank. Assumes nothing.
-use Rattle.std.proofs.Common.{◌≡◌, ℕ, zero, suc, ◌+◌, ◌-◌, ◌%◌, ◌^◌, ◌<◌, ◌≤◌, Bool, true, false, cond, ◌&&◌, eqb, ltb, List, [], ◌∷◌, ◌++◌, length, get_or, take, drop, replicate, Ok, Err, Result, sym, refl, ap, ◌∙◌, subst, arith, length-drop, drop-cons}
-use Rattle.std.proofs.lemmas.Bool.{eq-eqb, eqb-true, lt-ltb, ltb-true, and_parts}
+-- Blocks are read back as they were written, and no mark is blank.
+use Rattle.std.proofs.Common.{◌≡◌, ℕ, zero, suc, ◌+◌, ◌-◌, ◌%◌, ◌^◌, ◌<◌, ◌≤◌, Bool, true, false, cond, ◌&&◌, eqb, ltb, leb, List, [], ◌∷◌, ◌++◌, length, get_or, take, drop, replicate, Ok, Err, Result, sym, refl, ap, ◌∙◌, subst, arith, length-drop, drop-cons}
+use Rattle.std.proofs.lemmas.Bool.{eq-eqb, eqb-true, lt-ltb, ltb-true, le-leb, leb-true, and_parts}
 use Rattle.std.proofs.lemmas.List.{take-append-drop, drop-drop}
 use Rattle.little_endian.specs.Little.{le_number, le_bytes, bytes_from}
 use Rattle.little_endian.proofs.Widths.{le-bytes, part-back}
@@ -11,9 +11,10 @@ use Rattle.instruction.specs.declared.Instruction.{Instruction}
 use Rattle.instruction.specs.Layout.{instruction_in, unused_zero, number_at, Reads, Fit}
 use Rattle.instruction.proofs.Trips.{there, reads}
 use Rattle.device.proofs.Bytes.{cut-bytes}
+use Rattle.journal.specs.declared.TheConstants.{MOST_PAIRS}
 use Rattle.journal.specs.declared.header.Header.{Header}
 use Rattle.journal.specs.Blocks.{zeros, header_bytes, header_in, is_header, mark_bytes, is_mark, record_bytes, record_in, is_record, all_zero}
-use Rattle.journal.specs.Reading.{Proper, ReadsHeader, ReadsMark, ReadsRecord}
+use Rattle.journal.specs.Reading.{IsProperHeader, ReadsHeader, ReadsMark, ReadsRecord}
 
 pub zeros-no-mark : (k : ℕ) → k < 2 ^ 32 → zeros ≡ mark_bytes k → ⊥
 zeros-no-mark k h e =
@@ -34,11 +35,11 @@ record-read k x h f =
     let a : eqb (le_number (le_bytes 4 k)) k ≡ true = eq-eqb _ _ (le-bytes 4 k h) in
     rw a (there x f)
 
-pub header-read : (h : Header) → h.register < 256 → h.cash < 256 → 0 < h.pairs → h.pairs < 32768 → header_in (header_bytes h) ≡ Ok h
+pub header-read : (h : Header) → h.register < 256 → h.cash < 256 → 0 < h.pairs → h.pairs ≤ MOST_PAIRS → header_in (header_bytes h) ≡ Ok h
 header-read h r c low high =
     let p : le_number (le_bytes 4 h.pairs) ≡ h.pairs = le-bytes 4 h.pairs (omega arith) in
     let a : ltb 0 (le_number (le_bytes 4 h.pairs)) ≡ true = lt-ltb _ _ (omega arith) in
-    let b : ltb (le_number (le_bytes 4 h.pairs)) 32768 ≡ true = lt-ltb _ _ (omega arith) in
+    let b : leb (le_number (le_bytes 4 h.pairs)) MOST_PAIRS ≡ true = le-leb _ _ (omega arith) in
     rw (a, b) (λ k. Ok (record { register = h.register; cash = h.cash; pairs = p k }))
 
 -- what is read was so written
@@ -104,24 +105,24 @@ module _ (bs : List ℕ) (l : length bs ≡ 256) (small : (i : ℕ) → get_or b
       ∙ sym (part-rest 8 0 8 bs refl (omega arith))
 
   header-back : is_header bs ≡ true
-      → Proper (record { register = get_or bs 2 0; cash = get_or bs 3 0; pairs = number_at 4 4 bs })
+      → IsProperHeader (record { register = get_or bs 2 0; cash = get_or bs 3 0; pairs = number_at 4 4 bs })
       × (header_bytes (record { register = get_or bs 2 0; cash = get_or bs 3 0; pairs = number_at 4 4 bs }) ≡ bs)
   header-back t =
       let p = and_parts (eqb (get_or bs 0 0) 1) _ t in
       let q = and_parts (eqb (get_or bs 1 0) 2) _ p.1 in
       let r = and_parts (ltb 0 (number_at 4 4 bs)) _ q.1 in
-      let s = and_parts (ltb (number_at 4 4 bs) 32768) _ r.1 in
+      let s = and_parts (leb (number_at 4 4 bs) MOST_PAIRS) _ r.1 in
       let one = sym (eqb-true (get_or bs 0 0) 1 p.0) in
       let two = sym (eqb-true (get_or bs 1 0) 2 q.0) in
       let n = part-back 4 4 bs small in
       let z = rest-zero 8 248 refl s.1 in
-      (record { register = small 2; cash = small 3; some = ltb-true _ _ r.0; few = ltb-true _ _ s.0 }, (λ i. one i ∷ two i ∷ get_or bs 2 0 ∷ get_or bs 3 0 ∷ (n i ++ z i)) ∙ sym (part-rest 8 0 8 bs refl (omega arith)))
+      (record { register = small 2; cash = small 3; some = ltb-true _ _ r.0; few = leb-true _ _ s.0 }, (λ i. one i ∷ two i ∷ get_or bs 2 0 ∷ get_or bs 3 0 ∷ (n i ++ z i)) ∙ sym (part-rest 8 0 8 bs refl (omega arith)))
 
-pub read-header : (bs : List ℕ) (h : Header) → length bs ≡ 256 → ((i : ℕ) → get_or bs i 0 < 256) → header_in bs ≡ Ok h → Proper h × (header_bytes h ≡ bs)
+pub read-header : (bs : List ℕ) (h : Header) → length bs ≡ 256 → ((i : ℕ) → get_or bs i 0 < 256) → header_in bs ≡ Ok h → IsProperHeader h × (header_bytes h ≡ bs)
 read-header bs h l small e =
     let t = passed (is_header bs) _ NotAHeader h e in
     let is : record { register = get_or bs 2 0; cash = get_or bs 3 0; pairs = number_at 4 4 bs } ≡ h = cc in
-    (subst Proper is (header-back bs l small t.0).0, ap header_bytes (sym is) ∙ (header-back bs l small t.0).1)
+    (subst IsProperHeader is (header-back bs l small t.0).0, ap header_bytes (sym is) ∙ (header-back bs l small t.0).1)
 
 -- both ways
 
@@ -153,11 +154,11 @@ same-test k bs false true a b = a.only (b.good refl)
 same-test k bs false false a b = refl
 
 -- a header whose every test was passed
-pub header-told : (bs : List ℕ) (n : ℕ) → get_or bs 0 0 ≡ 1 → get_or bs 1 0 ≡ 2 → n ≡ number_at 4 4 bs → 1 ≤ n → n ≤ 32767 → true ≡ all_zero (drop 8 bs)
+pub header-told : (bs : List ℕ) (n : ℕ) → get_or bs 0 0 ≡ 1 → get_or bs 1 0 ≡ 2 → n ≡ number_at 4 4 bs → 1 ≤ n → n ≤ MOST_PAIRS → true ≡ all_zero (drop 8 bs)
     → Ok (record { register = get_or bs 2 0; cash = get_or bs 3 0; pairs = n }) ≡ header_in bs
 header-told bs n one two is low high z =
     let a : ltb 0 (number_at 4 4 bs) ≡ true = lt-ltb _ _ (omega arith) in
-    let b : ltb (number_at 4 4 bs) 32768 ≡ true = lt-ltb _ _ (omega arith) in
+    let b : leb (number_at 4 4 bs) MOST_PAIRS ≡ true = le-leb _ _ (omega arith) in
     rw (one, two, a, b, sym z) (λ i. Ok (record { register = get_or bs 2 0; cash = get_or bs 3 0; pairs = is i }))
 
 -- a record read by the record of its instruction: another stands there, or it is that one

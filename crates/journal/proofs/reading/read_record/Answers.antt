@@ -1,8 +1,8 @@
 use Rattle.std.proofs.Common.{arith, rules}
 use Rattle.std.proofs.lemmas.Result.{err_from_is_err_and}
 use Rattle.std.proofs.lemmas.Grind.{common_steps}
-use Rattle.engine.proofs.Errors.{mapped}
-use Rattle.engine.proofs.opening.read_entry.Goals as goal
+use Rattle.journal.proofs.Errors.{mapped}
+use Rattle.journal.proofs.reading.read_record.Goals as goal
 
 pub returns-in_err-map_err-clause-answer : goal.returns-in_err-map_err-clause-answer
 returns-in_err-map_err-clause-answer g c =

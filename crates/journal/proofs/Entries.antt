@@ -20,11 +20,11 @@ module _ (k : ℕ) (entry mark : List ℕ) {m₀ m₁ m₂ : Medium} (w : Write 
         calls_left = omega (arith, x.calls_left, begun, none);
         holds = λ b n p. x.elsewhere.holds b p ∙ s.holds b ∙ w.elsewhere.holds b n;
         loose = λ b n p f. x.elsewhere.loose b p ∙ s.loose b;
-        recorded = λ l. x.elsewhere.holds (record_at k) (λ e. omega arith) ∙ s.holds (record_at k) ∙ w.here;
-        recorded-firm = λ l. x.elsewhere.loose (record_at k) (λ e. omega arith) ∙ s.loose (record_at k);
-        unmarked = λ l. absurd (omega (arith, begun));
-        unmarked-firm = λ l. absurd (omega (arith, begun));
-        marked = λ l. absurd (omega (arith, begun, none));
+        new_record = λ l. x.elsewhere.holds (record_at k) (λ e. omega arith) ∙ s.holds (record_at k) ∙ w.here;
+        new_record-firm = λ l. x.elsewhere.loose (record_at k) (λ e. omega arith) ∙ s.loose (record_at k);
+        old_mark = λ l. absurd (omega (arith, begun));
+        old_mark-firm = λ l. absurd (omega (arith, begun));
+        new_mark = λ l. absurd (omega (arith, begun, none));
         firm = λ l. absurd (omega (arith, begun, none));
       }
 
@@ -52,10 +52,10 @@ module _ (k : ℕ) (entry mark : List ℕ) {m₀ m₁ m₂ : Medium} (w : Write 
       calls_left = omega (arith, last r t, begun, written);
       holds = λ b n p. t.holds b ∙ x.elsewhere.holds b p ∙ s.holds b ∙ w.elsewhere.holds b n;
       loose = λ b n p f. still r t b (x.elsewhere.loose b p ∙ s.loose b);
-      recorded = λ l. t.holds (record_at k) ∙ x.elsewhere.holds (record_at k) (λ e. omega arith) ∙ s.holds (record_at k) ∙ w.here;
-      recorded-firm = λ l. still r t (record_at k) (x.elsewhere.loose (record_at k) (λ e. omega arith) ∙ s.loose (record_at k));
-      unmarked = λ l. absurd (omega (arith, begun));
-      unmarked-firm = λ l. absurd (omega (arith, begun));
-      marked = λ l. t.holds (mark_at k) ∙ x.here;
+      new_record = λ l. t.holds (record_at k) ∙ x.elsewhere.holds (record_at k) (λ e. omega arith) ∙ s.holds (record_at k) ∙ w.here;
+      new_record-firm = λ l. still r t (record_at k) (x.elsewhere.loose (record_at k) (λ e. omega arith) ∙ s.loose (record_at k));
+      old_mark = λ l. absurd (omega (arith, begun));
+      old_mark-firm = λ l. absurd (omega (arith, begun));
+      new_mark = λ l. t.holds (mark_at k) ∙ x.here;
       firm = all-firm r t;
     }
