@@ -1,7 +1,7 @@
 use Rattle.std.proofs.Common.{refl}
 use Rattle.check_drill.specs.Pictures.{half}
 use Rattle.check_drill.proofs.Joins.{join-both}
-use Rattle.check_drill.proofs.pictures.SimulatedKind.add_row.Goals as goal
+use Rattle.check_drill.proofs.pictures.SimulatedDeviceKind.add_row.Goals as goal
 
 pub returns : goal.returns
 returns c ok =

@@ -2,7 +2,8 @@
 use Rattle.std.proofs.Common.{◌≡◌, ℕ, ◌+◌, ◌-◌, ◌<◌, ◌≤◌, ◌⊎◌, List, [], ◌∷◌, ◌++◌, length, get_or, take, drop, set, sym, refl, ap, ◌∙◌, inl, inr, append_assoc, arith, length-append, length-drop, length-take}
 use borrow.Rule.Slice.PartMut.{put_mid}
 use Rattle.std.proofs.lemmas.List.{take_more_set, drop-drop, drop-set-lt, get_or_append_left, get_or-append_right, get_or-take, get_or-drop, ext_get_or}
-use Rattle.device.specs.Bytes.{Bytes, splice}
+use Rattle.device.specs.Bytes.{AreBytes}
+use Rattle.images.specs.Splices.{splice}
 use Rattle.device.proofs.Bytes.{cut-bytes, join-bytes, rest-bytes}
 
 module _ (xs : List ℕ) (at : ℕ) (ys : List ℕ) (fits : at + length ys ≤ length xs) where
@@ -53,7 +54,7 @@ module _ (xs : List ℕ) (at : ℕ) (ys : List ℕ) (fits : at + length ys ≤ l
       let i : k < length ys = omega (arith, length-cut) in
       get_or-take (length ys) _ k 0 i ∙ get_or-drop at (splice xs at ys) k 0 ∙ splice-inside k i)
 
-pub splice-bytes : (xs : List ℕ) (at : ℕ) (ys : List ℕ) → Bytes xs → Bytes ys → Bytes (splice xs at ys)
+pub splice-bytes : (xs : List ℕ) (at : ℕ) (ys : List ℕ) → AreBytes xs → AreBytes ys → AreBytes (splice xs at ys)
 splice-bytes xs at ys hx hy =
     join-bytes (take at xs) (ys ++ drop (at + length ys) xs) (cut-bytes xs at 0 hx)
     (join-bytes ys (drop (at + length ys) xs) hy (rest-bytes xs (at + length ys) hx))
