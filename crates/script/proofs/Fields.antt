@@ -16,7 +16,8 @@ Seen bs space = bs ≡ 32 ∷ after_word bs
 Seen bs other = Unit {0}
 Seen bs end = bs ≡ []
 
-pub first-letter : (c : ℕ) (cs : List ℕ) → is_letter c ≡ true → (first_word (c ∷ cs) ≡ letter c) × (after_word (c ∷ cs) ≡ cs)
+pub first-letter : (c : ℕ) (cs : List ℕ) → is_letter c ≡ true
+    → (first_word (c ∷ cs) ≡ letter c) × (after_word (c ∷ cs) ≡ cs)
 first-letter c cs l = search rules
 
 first-space : (cs : List ℕ) → (first_word (32 ∷ cs) ≡ space) × (after_word (32 ∷ cs) ≡ cs)
@@ -26,16 +27,20 @@ pub seen : (bs : List ℕ) → Seen bs (first_word bs)
 seen [] = refl
 seen (c ∷ cs) = search (rules, take-append-drop)
 
-number-sound : (most n : ℕ) (bs : List ℕ) (w : Word) → most < 2 ^ 64 → Seen bs w → number_in most w ≡ Some n → (bs ≡ decimal n ++ after_word bs) × (n ≤ most)
+number-sound : (most n : ℕ) (bs : List ℕ) (w : Word) → most < 2 ^ 64 → Seen bs w → number_in most w ≡ Some n
+    → (bs ≡ decimal n ++ after_word bs) × (n ≤ most)
 number-sound most n bs (digits ds) h s e = let p = sound most n ds h e in search rules
 number-sound most n bs w h s e = search rules
 
-field-in-sound : (most n : ℕ) (bs : List ℕ) (w : Word) → most < 2 ^ 64 → Seen bs w → field_in most w (after_word bs) ≡ Some n
+field-in-sound : (most n : ℕ) (bs : List ℕ) (w : Word) → most < 2 ^ 64 → Seen bs w
+    → field_in most w (after_word bs) ≡ Some n
     → (bs ≡ 32 ∷ (decimal n ++ after_word (after_word bs))) × (n ≤ most)
-field-in-sound most n bs space h s e = let p = number-sound most n (after_word bs) (first_word (after_word bs)) h (seen (after_word bs)) e in search rules
+field-in-sound most n bs space h s e = let p = number-sound most n (after_word bs) (first_word (after_word bs)) h
+    (seen (after_word bs)) e in search rules
 field-in-sound most n bs w h s e = search rules
 
-pub field-sound : (most n : ℕ) (bs : List ℕ) → most < 2 ^ 64 → field_of most bs ≡ Some n → (bs ≡ 32 ∷ (decimal n ++ after_field bs)) × (n ≤ most)
+pub field-sound : (most n : ℕ) (bs : List ℕ) → most < 2 ^ 64 → field_of most bs ≡ Some n
+    → (bs ≡ 32 ∷ (decimal n ++ after_field bs)) × (n ≤ most)
 unfolding field_of after_field
 field-sound most n bs h e = field-in-sound most n bs (first_word bs) h (seen bs) e
 
@@ -53,9 +58,11 @@ leading-all [] [] a s = refl
 leading-all [] (y ∷ ys) a s = search rules
 leading-all (d ∷ ds) ys a s = let i = leading-all ds ys a.1 s in search rules
 
-word-digits : (ds ys : List ℕ) → AllDigits ds → 0 < length ds → Stops ys → (first_word (ds ++ ys) ≡ digits ds) × (after_word (ds ++ ys) ≡ ys)
+word-digits : (ds ys : List ℕ) → AllDigits ds → 0 < length ds → Stops ys
+    → (first_word (ds ++ ys) ≡ digits ds) × (after_word (ds ++ ys) ≡ ys)
 word-digits [] ys a h s = absurd (omega arith)
-word-digits (d ∷ ds) ys a h s = let i = leading-all ds ys a.1 s in search (rules, take_at (d ∷ ds) ys, drop_at (d ∷ ds) ys)
+word-digits (d ∷ ds) ys a h s = let i = leading-all ds ys a.1 s in search
+    (rules, take_at (d ∷ ds) ys, drop_at (d ∷ ds) ys)
 
 pub field-complete : (most n : ℕ) (ys : List ℕ) → most < 2 ^ 64 → n ≤ most → Stops ys
     → (field_of most (32 ∷ (decimal n ++ ys)) ≡ Some n) × (after_field (32 ∷ (decimal n ++ ys)) ≡ ys)
@@ -73,11 +80,13 @@ Within [] (m ∷ ms) = ⊥
 Within (n ∷ ns) [] = ⊥
 Within (n ∷ ns) (m ∷ ms) = (n ≤ m) × Within ns ms
 
-pub then-some : {X Y : Type 0} (o : Option X) (f : X → Option Y) (y : Y) → and_then o f ≡ Some y → (x : X) × (o ≡ Some x) × (f x ≡ Some y)
+pub then-some : {X Y : Type 0} (o : Option X) (f : X → Option Y) (y : Y) → and_then o f ≡ Some y
+    → (x : X) × (o ≡ Some x) × (f x ≡ Some y)
 then-some (Some x) f y e = (x, refl, e)
 then-some None f y e = absurd cc
 
-pub fields-sound : (ms bs ns : List ℕ) → AllByRecursion (λ m. m < 2 ^ 64) ms → numbers_in ms bs ≡ Some ns → (bs ≡ numbers_text ns) × Within ns ms
+pub fields-sound : (ms bs ns : List ℕ) → AllByRecursion (λ m. m < 2 ^ 64) ms → numbers_in ms bs ≡ Some ns
+    → (bs ≡ numbers_text ns) × Within ns ms
 fields-sound [] bs ns a e = search (rules, nil_from_length)
 fields-sound (m ∷ ms) bs ns a e =
     let p = then-some (field_of m bs) (λ n. and_then (numbers_in ms (after_field bs)) (λ ns. Some (n ∷ ns))) ns e in
@@ -87,13 +96,15 @@ fields-sound (m ∷ ms) bs ns a e =
     let z : p.0 ∷ q.0 ≡ ns = cc in
     subst (λ l. (bs ≡ numbers_text l) × Within l (m ∷ ms)) z (f.0 ∙ ap (λ x. 32 ∷ (decimal p.0 ++ x)) r.0, (f.1, r.1))
 
-pub fields-complete : (ms ns : List ℕ) → AllByRecursion (λ m. m < 2 ^ 64) ms → Within ns ms → numbers_in ms (numbers_text ns) ≡ Some ns
+pub fields-complete : (ms ns : List ℕ) → AllByRecursion (λ m. m < 2 ^ 64) ms → Within ns ms
+    → numbers_in ms (numbers_text ns) ≡ Some ns
 fields-complete [] [] a w = refl
 fields-complete [] (n ∷ ns) a w = absurd w
 fields-complete (m ∷ ms) [] a w = absurd w
 fields-complete (m ∷ ms) (n ∷ ns) a w =
     let f = field-complete m n (numbers_text ns) a.0 w.0 (stops ns) in
-    ap (λ o. and_then o (λ x. and_then (numbers_in ms (after_field (numbers_text (n ∷ ns)))) (λ xs. Some (x ∷ xs)))) f.0
+    ap (λ o. and_then o
+        (λ x. and_then (numbers_in ms (after_field (numbers_text (n ∷ ns)))) (λ xs. Some (x ∷ xs)))) f.0
     ∙ ap (λ b. and_then (numbers_in ms b) (λ xs. Some (n ∷ xs))) f.1
     ∙ ap (λ o. and_then o (λ xs. Some (n ∷ xs))) (fields-complete ms ns a.1 w.1)
 

@@ -55,17 +55,20 @@ Zeros ns = AllByRecursion (λ n. n ≡ 0) ns
 filled-zeros : (k : Kind) (ns : List ℕ) → Zeros (omitted_fields k (instruction_with k ns))
 filled-zeros k ns = search rules
 
-filled-own : (k : Kind) (i : Instruction) → i.kind ≡ byte_of k → Zeros (omitted_fields k i) → i ≡ instruction_with k (written_fields k i)
+filled-own : (k : Kind) (i : Instruction) → i.kind ≡ byte_of k → Zeros (omitted_fields k i)
+    → i ≡ instruction_with k (written_fields k i)
 filled-own k i e z = search rules
 
-fits : (k : Kind) (i : Instruction) → i.kind ≡ byte_of k → Zeros (omitted_fields k i) → Within (written_fields k i) (limits k) → Fit i
+fits : (k : Kind) (i : Instruction) → i.kind ≡ byte_of k → Zeros (omitted_fields k i)
+    → Within (written_fields k i) (limits k) → Fit i
 fits k i e z w = search rules
 
 used-within : (k : Kind) (i : Instruction) → Fit i → Within (written_fields k i) (limits k)
 used-within k i f = search rules
 
 -- what is read has the line as its text
-filled-good : (k : Kind) (ns : List ℕ) → Within ns (limits k) → IsInstructionText (instruction_with k ns) (letter_of k ∷ numbers_text ns)
+filled-good : (k : Kind) (ns : List ℕ) → Within ns (limits k)
+    → IsInstructionText (instruction_with k ns) (letter_of k ∷ numbers_text ns)
 filled-good k ns w =
     let byte = filled-code k ns in
     let zeros = filled-zeros k ns in
@@ -81,7 +84,8 @@ filled-good k ns w =
 abbrev pair : List ℕ → Position
 pair ns = record { account = get_or ns 0 0; item = get_or ns 1 0 }
 
-pair-good : (c : ℕ) (ns : List ℕ) → Within ns (largest_in 2 ∷ largest_in 2 ∷ []) → IsQuestionText c (pair ns) (c ∷ numbers_text ns)
+pair-good : (c : ℕ) (ns : List ℕ) → Within ns (largest_in 2 ∷ largest_in 2 ∷ [])
+    → IsQuestionText c (pair ns) (c ∷ numbers_text ns)
 pair-good c ns w =
     let at = within-at ns (largest_in 2 ∷ largest_in 2 ∷ []) in
     record {
@@ -92,7 +96,8 @@ pair-good c ns w =
 
 -- a request made of the numbers of fields
 made : {X : Type 0} (c : ℕ) (ms bs : List ℕ) (f : List ℕ → X) (make : X → Request) (q : Request) (o : Option (List ℕ))
-    → ((ns : List ℕ) → o ≡ Some ns → (bs ≡ numbers_text ns) × Within ns ms) → ((ns : List ℕ) → Within ns ms → IsTextOf (make (f ns)) (c ∷ numbers_text ns))
+    → ((ns : List ℕ) → o ≡ Some ns → (bs ≡ numbers_text ns) × Within ns ms)
+        → ((ns : List ℕ) → Within ns ms → IsTextOf (make (f ns)) (c ∷ numbers_text ns))
     → and_then (and_then o (λ ns. Some (f ns))) (λ x. Some (make x)) ≡ Some q → IsTextOf q (c ∷ bs)
 made c ms bs f make q (Some ns) s h e =
     let p = s ns refl in
@@ -106,29 +111,41 @@ cut-good bs q e =
     let z : Cut p.0 ≡ q = cc in
     subst (λ r. IsTextOf r (67 ∷ bs)) z (cut-sound bs p.0 p.1)
 
-for-good : (c : ℕ) (bs : List ℕ) (q : Request) (r k t : Bool) (o : Option Kind) → eqb c 81 ≡ r → eqb c 75 ≡ k → eqb c 67 ≡ t → kind_for c ≡ o
-    → cond r (and_then (position_of bs) (λ p. Some (Register p))) (cond k (and_then (position_of bs) (λ p. Some (Cash p)))
-    (cond t (and_then (cut_of bs) (λ x. Some (Cut x))) (and_then o (λ k. and_then (instruction_of k bs) (λ i. Some (Instruct i)))))) ≡ Some q
+for-good : (c : ℕ) (bs : List ℕ) (q : Request) (r k t : Bool) (o : Option Kind) → eqb c 81 ≡ r → eqb c 75 ≡ k
+    → eqb c 67 ≡ t → kind_for c ≡ o
+    → cond r (and_then (position_of bs) (λ p. Some (Register p)))
+        (cond k (and_then (position_of bs) (λ p. Some (Cash p)))
+    (cond t (and_then (cut_of bs) (λ x. Some (Cut x)))
+        (and_then o (λ k. and_then (instruction_of k bs) (λ i. Some (Instruct i)))))) ≡ Some q
     → IsTextOf q (c ∷ bs)
 for-good c bs q true k t o x y w z e =
-    subst (λ d. IsTextOf q (d ∷ bs)) (sym (eqb-true c 81 x)) (made 81 (largest_in 2 ∷ largest_in 2 ∷ []) bs pair (λ p. Register p) q _ (λ ns. fields-sound _ bs ns narrow-pair) (pair-good 81) e)
+    subst (λ d. IsTextOf q (d ∷ bs)) (sym (eqb-true c 81 x))
+        (made 81 (largest_in 2 ∷ largest_in 2 ∷ []) bs pair (λ p. Register p) q _
+        (λ ns. fields-sound _ bs ns narrow-pair) (pair-good 81) e)
 for-good c bs q false true t o x y w z e =
-    subst (λ d. IsTextOf q (d ∷ bs)) (sym (eqb-true c 75 y)) (made 75 (largest_in 2 ∷ largest_in 2 ∷ []) bs pair (λ p. Cash p) q _ (λ ns. fields-sound _ bs ns narrow-pair) (pair-good 75) e)
-for-good c bs q false false true o x y w z e = subst (λ d. IsTextOf q (d ∷ bs)) (sym (eqb-true c 67 w)) (cut-good bs q e)
+    subst (λ d. IsTextOf q (d ∷ bs)) (sym (eqb-true c 75 y))
+        (made 75 (largest_in 2 ∷ largest_in 2 ∷ []) bs pair (λ p. Cash p) q _
+        (λ ns. fields-sound _ bs ns narrow-pair) (pair-good 75) e)
+for-good c bs q false false true o x y w z e = subst (λ d. IsTextOf q (d ∷ bs)) (sym (eqb-true c 67 w))
+    (cut-good bs q e)
 for-good c bs q false false false (Some k) x y w z e =
     let own : c ≡ letter_of k = search rules in
-    subst (λ d. IsTextOf q (d ∷ bs)) (sym own) (made (letter_of k) (limits k) bs (instruction_with k) (λ i. Instruct i) q _ (λ ns. fields-sound _ bs ns (narrow k)) (filled-good k) e)
+    subst (λ d. IsTextOf q (d ∷ bs)) (sym own) (made (letter_of k) (limits k) bs (instruction_with k)
+        (λ i. Instruct i) q _ (λ ns. fields-sound _ bs ns (narrow k)) (filled-good k) e)
 for-good c bs q false false false None x y w z e = absurd cc
 
-after-good : (bs : List ℕ) (q : Request) (w : Word) → Seen bs w → request_after w (after_word bs) ≡ Some q → IsTextOf q bs
-after-good bs q (letter c) s e = subst (λ l. IsTextOf q l) (sym s) (for-good c (after_word bs) q (eqb c 81) (eqb c 75) (eqb c 67) (kind_for c) refl refl refl refl e)
+after-good : (bs : List ℕ) (q : Request) (w : Word) → Seen bs w → request_after w (after_word bs) ≡ Some q
+    → IsTextOf q bs
+after-good bs q (letter c) s e = subst (λ l. IsTextOf q l) (sym s)
+    (for-good c (after_word bs) q (eqb c 81) (eqb c 75) (eqb c 67) (kind_for c) refl refl refl refl e)
 after-good bs q w s e = search rules
 
 -- each well-formed request is read off its text
 at-letter : (c : ℕ) (bs : List ℕ) → is_letter c ≡ true → request_of (c ∷ bs) ≡ request_for c bs
 at-letter c bs l = let f = first-letter c bs l in λ j. request_after (f.0 j) (f.1 j)
 
-for-kind : (k : Kind) (bs : List ℕ) → request_for (letter_of k) bs ≡ and_then (instruction_of k bs) (λ i. Some (Instruct i))
+for-kind : (k : Kind) (bs : List ℕ) → request_for (letter_of k) bs ≡ and_then (instruction_of k bs) (λ i. Some
+    (Instruct i))
 for-kind k bs = search rules
 
 kind-complete : (i : Instruction) (bs : List ℕ) → IsInstructionText i bs → request_of bs ≡ Some (Instruct i)
@@ -138,18 +155,23 @@ kind-complete i bs w =
     ap request_of w.text
     ∙ at-letter (letter_of k) (numbers_text own) (search rules)
     ∙ for-kind k (numbers_text own)
-    ∙ ap (λ o. and_then (and_then o (λ ns. Some (instruction_with k ns))) (λ i. Some (Instruct i))) (fields-complete (limits k) own (narrow k) (used-within k i w.fit))
+    ∙ ap (λ o. and_then (and_then o (λ ns. Some (instruction_with k ns))) (λ i. Some (Instruct i)))
+        (fields-complete (limits k) own (narrow k) (used-within k i w.fit))
     ∙ ap (λ x. Some (Instruct x)) (sym (filled-own k i w.byte w.zeros))
 
-pair-complete : (p : Position) → p.account < 2 ^ 16 → p.item < 2 ^ 16 → numbers_in (largest_in 2 ∷ largest_in 2 ∷ []) (numbers_text (p.account ∷ p.item ∷ [])) ≡ Some (p.account ∷ p.item ∷ [])
-pair-complete p a i = fields-complete (largest_in 2 ∷ largest_in 2 ∷ []) (p.account ∷ p.item ∷ []) narrow-pair (search rules)
+pair-complete : (p : Position) → p.account < 2 ^ 16 → p.item < 2 ^ 16
+    → numbers_in (largest_in 2 ∷ largest_in 2 ∷ []) (numbers_text (p.account ∷ p.item ∷ [])) ≡ Some
+    (p.account ∷ p.item ∷ [])
+pair-complete p a i = fields-complete (largest_in 2 ∷ largest_in 2 ∷ []) (p.account ∷ p.item ∷ []) narrow-pair
+    (search rules)
 
 request-complete : (q : Request) (bs : List ℕ) → IsTextOf q bs → request_of bs ≡ Some q
 request-complete (Instruct i) bs w = kind-complete i bs w
 request-complete (Register p) bs w =
     ap request_of w.text
     ∙ at-letter 81 (numbers_text (p.account ∷ p.item ∷ [])) refl
-    ∙ ap (λ o. and_then (and_then o (λ ns. Some (pair ns))) (λ p. Some (Register p))) (pair-complete p w.account w.item)
+    ∙ ap (λ o. and_then (and_then o (λ ns. Some (pair ns))) (λ p. Some (Register p)))
+        (pair-complete p w.account w.item)
 request-complete (Cash p) bs w =
     ap request_of w.text
     ∙ at-letter 75 (numbers_text (p.account ∷ p.item ∷ [])) refl

@@ -17,7 +17,7 @@ use Rattle.script.specs.declared.Request.TheVariants.{Instruct, Register, Cash, 
 abbrev pub numbers_text : List ℕ → List ℕ
 numbers_text ns = flat_map (λ n. 32 ∷ decimal n) ns
 
--- the letters I, D, T, E, L, S and F
+-- the letter of a kind: I, D, T, E, L, S or F
 abbrev pub letter_of : Kind → ℕ
 letter_of Issue = 73
 letter_of PayIn = 68
