@@ -1,13 +1,11 @@
-pub mod Errors
 pub mod Scans
 pub mod Opens
 pub mod Instructs
 pub mod Cuts
-pub mod Entries
 pub mod Verdicts
 pub mod Finds
 pub mod Openings
-pub mod Standings
+pub mod Findings
 pub mod Keeping
 pub mod Readings
 pub mod Refusals

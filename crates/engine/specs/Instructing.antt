@@ -1,5 +1,5 @@
--- What an instruction is answered, and what it leaves of the engine. Assumes nothing.
-use Rattle.std.specs.Prelude.{◌≡◌, ℕ, ◌+◌, ◌<◌, cond, ◌&&◌, Some, None, Ok, Err, Option, ◌==◌, ◌≢◌, nat_le}
+-- What an instruction is answered, and what it leaves of the engine.
+use Rattle.std.specs.Prelude.{◌≡◌, ℕ, if◌then◌else◌, ◌+◌, ◌<◌, ◌&&◌, Some, None, Ok, Err, Option, ◌==◌, ◌≢◌, nat_le}
 use Rattle.refusals.specs.Numbers.{numbered, number_of, fault_number}
 use Rattle.refusals.specs.declared.Fault.{Fault}
 use Rattle.refusals.specs.Faults.{in_entry}
@@ -13,57 +13,67 @@ use Rattle.engine.specs.declared.engine.Mode.TheVariants.{Open, Down, Refused}
 use Rattle.engine.specs.View.{View}
 
 -- only an open engine goes on to what comes next
-abbrev pub ready : Mode → Instruction → Answer → Answer
-ready Open x next = next
-ready (Down y) x next = Err (fault_of x (numbered 42))
-ready (Refused f) x next = Err (fault_of x (numbered 41))
+abbrev pub if_open : Mode → Instruction → Answer → Answer
+if_open Open x next = next
+if_open (Down y) x next = Err (fault_of x (numbered 42))
+if_open (Refused f) x next = Err (fault_of x (numbered 41))
 
--- all entries are used
-abbrev pub room_for : Instruction → View → Answer
-room_for x v = cond (nat_le v.pairs v.entry_count) (Err (fault_of x (numbered 36))) (Ok tt)
+-- 36 where all entries are used
+abbrev pub room_answer : Instruction → View → Answer
+room_answer x v =
+    if nat_le v.pairs v.entry_count then Err (fault_of x (numbered 36)) else Ok tt
 
--- the checks of an instruction in order, before anything is written: the engine, the rules, the room
+-- the checks of an instruction in order, before anything is written: the engine, the rules, the
+-- room
 abbrev pub check_answer : Rulebook → Instruction → View → Answer
-check_answer h x v = ready v.mode x (and_then (fault_answer h v.standing x) (room_for x v))
+check_answer h x v = if_open v.mode x (and_then (fault_answer h v.standing x) (room_answer x v))
 
 -- a fault met within entry k, where x was written
 abbrev pub within_entry : Instruction → ℕ → Answer → Answer
 within_entry x k (Ok u) = Ok tt
 within_entry x k (Err f) = Err (fault_about x (in_entry k f))
 
+-- the answer of an instruction: of the checks, and then of the writing of its entry
 abbrev pub instruct_answer : Rulebook → Instruction → View → Answer
-instruct_answer h x v = and_then (check_answer h x v) (within_entry x v.entry_count (write_entry_answer v.medium v.entry_count))
+instruct_answer h x v =
+    and_then (check_answer h x v)
+    (within_entry x v.entry_count (write_entry_answer v.medium v.entry_count))
 
 -- The entry is written and firm, and only then books and trades are changed.
 pub record Accepts (x : Instruction) (v v' : View) : Type 0 where
   pub mode : v'.mode ≡ Open
-  pub medium : WritesEntry (record_bytes v.entry_count x) (mark_bytes v.entry_count) v.entry_count v.medium v'.medium
+  pub medium : WritesEntry (record_bytes v.entry_count x) (mark_bytes v.entry_count) v.entry_count
+      v.medium v'.medium
   pub standing : v'.standing ≡ effect v.standing x
   pub pairs : v'.pairs ≡ v.pairs
   pub found : v'.found ≡ v.found
   pub last_found : v'.last_found ≡ v.last_found
   pub entry_count : v'.entry_count ≡ v.entry_count + 1
 
--- Power went while the entry was written: the instruction is in hand, and books and trades are as they were.
+-- Power went while the entry was written: the instruction is in hand, and books and trades are as
+-- they were.
 pub record CutsOff (x : Instruction) (v v' : View) : Type 0 where
   pub mode : v'.mode ≡ Down x
-  pub medium : WritesEntry (record_bytes v.entry_count x) (mark_bytes v.entry_count) v.entry_count v.medium v'.medium
+  pub medium : WritesEntry (record_bytes v.entry_count x) (mark_bytes v.entry_count) v.entry_count
+      v.medium v'.medium
   pub standing : v'.standing ≡ v.standing
   pub pairs : v'.pairs ≡ v.pairs
   pub found : v'.found ≡ v.found
   pub last_found : v'.last_found ≡ v.last_found
   pub entry_count : v'.entry_count ≡ v.entry_count
 
--- what is left, by what the checks answered and what the writing of the entry did; a check that refuses leaves all as it was
+-- What is left, by what the checks answered and what the writing of the entry did. A check that
+-- refuses leaves all as it was.
 abbrev pub Leaves : Answer → Answer → Instruction → View → View → Type 0
 Leaves (Err f) written x v v' = v' ≡ v
 Leaves (Ok u) (Ok w) x v v' = Accepts x v v'
 Leaves (Ok u) (Err f) x v v' = CutsOff x v v'
 
--- an instruction answered r leads the engine from v to v'
-pub record TakesInstruction (h : Rulebook) (x : Instruction) (v v' : View) (r : Answer) : Type 0 where
-  pub answer : r ≡ instruct_answer h x v
-  pub after : Leaves (check_answer h x v) (write_entry_answer v.medium v.entry_count) x v v'
+-- an instruction is answered r, and leads the engine from v to v'
+pub record TakesInstruction (h : Rulebook) (x : Instruction) (v v' : View) (r : Answer) : Type 0
+  where
+    pub answer : r ≡ instruct_answer h x v
+    pub after : Leaves (check_answer h x v) (write_entry_answer v.medium v.entry_count) x v v'
 
 -- What the checks ask for: the engine is open, the rules accept the instruction, and an entry is
 -- left for it.
@@ -72,25 +82,34 @@ pub record Passes (h : Rulebook) (x : Instruction) (v : View) : Type 0 where
   pub accepted : answer h v.standing x ≡ Ok tt
   pub room : v.entry_count < v.pairs
 
--- What a refused instruction names: its trade where its kind is 3 to 7, and no rule.
+-- the trade that an instruction names: none where its kind is not 3 to 7
+abbrev pub named_trade : Instruction → Option ℕ
+named_trade x = if nat_le 3 x.kind && nat_le x.kind 7 then Some x.trade else None
+
+-- what the fault of a refused instruction names: this block and this entry, its trade, and no rule
 pub record IsFaultOf (x : Instruction) (b k : Option ℕ) (f : Fault) : Type 0 where
   pub block : f.block ≡ b
   pub entry : f.entry ≡ k
-  pub trade : f.trade ≡ cond (nat_le 3 x.kind && nat_le x.kind 7) (Some x.trade) None
+  pub trade : f.trade ≡ named_trade x
   pub rule : f.rule ≡ None
 
--- the block of the write that found no call left, by the calls left for an entry: that of its
--- record, of its mark, or none where it was a sync
-abbrev pub cut_at : ℕ → ℕ → Option ℕ
-cut_at k left = cond (left == 0) (Some (record_at k)) (cond (left == 2) (Some (mark_at k)) None)
+-- The block of the write that found no call left, by the calls left for entry k: that of its
+-- record, of its mark, or none where it was a sync that found none.
+abbrev pub block_without_call : ℕ → ℕ → Option ℕ
+block_without_call k calls_left =
+    if calls_left == 0 then Some (record_at k)
+    else (if calls_left == 2 then Some (mark_at k) else None)
 
--- The answer is 13 exactly where the checks pass and fewer than 4 calls are left. That instruction is
--- then in hand, and the engine is down. Such a fault names the entry, and the block of a write; one of
--- the checks names neither.
-pub record CutShort (h : Rulebook) (x : Instruction) (v v' : View) (r : Answer) : Type 0 where
+-- When an instruction takes the engine down, and what its fault names.
+pub record TellsWhenDown (h : Rulebook) (x : Instruction) (v v' : View) (r : Answer) : Type 0 where
+  -- the answer is 13 only where the instruction passes and the device has fewer than 4 calls left,
   pub only : fault_number r ≡ 13 → Passes h x v × (v.medium.calls_left < 4)
+  -- and always there
   pub always : Passes h x v → v.medium.calls_left < 4 → fault_number r ≡ 13
+  -- the engine is then down, with the instruction in hand
   pub hand : fault_number r ≡ 13 → v'.mode ≡ Down x
+  -- such a fault names the entry, and the block of a write
   pub cut : (f : Fault) → r ≡ Err f → number_of f.refusal ≡ 13
-      → IsFaultOf x (cut_at v.entry_count v.medium.calls_left) (Some v.entry_count) f
+      → IsFaultOf x (block_without_call v.entry_count v.medium.calls_left) (Some v.entry_count) f
+  -- a fault of the checks names neither
   pub check : (f : Fault) → r ≡ Err f → number_of f.refusal ≢ 13 → IsFaultOf x None None f

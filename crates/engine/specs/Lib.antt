@@ -6,4 +6,4 @@ pub mod Instructing
 pub mod Asking
 pub mod Tracing
 pub mod Lasting
-pub mod Standing
+pub mod Findings

@@ -1,68 +1,61 @@
--- Which calls an engine makes to its device. Assumes nothing.
-use Rattle.std.specs.Prelude.{ℕ, zero, suc, ◌+◌, cond, List, [], ◌∷◌, ◌++◌, take, Some, None, Ok, Err, Option, Result, nat_lt}
+-- The calls that an engine makes to its device.
+use Rattle.std.specs.Prelude.{ℕ, zero, suc, if◌then◌else◌, ◌+◌, List, [], ◌∷◌, ◌++◌, take, Some, None, Ok, Err, Option, Result, nat_lt}
 use Rattle.refusals.specs.declared.Fault.{Fault}
-use Rattle.instruction.specs.declared.Instruction.{Instruction}
 use Rattle.refusals.specs.Answers.{if_ok}
+use Rattle.instruction.specs.declared.Instruction.{Instruction}
 use Rattle.rulebook.specs.Rules.{Rulebook}
-use Rattle.device.specs.declared.TheConstants.{BLOCK_SIZE}
 use Rattle.device.specs.Medium.{Medium}
-use Rattle.device.specs.Traces.{DeviceCall, reading, writing, syncing}
+use Rattle.device.specs.Traces.{DeviceCall}
 use Rattle.journal.specs.Journal.{record_at, mark_at}
-use Rattle.journal.specs.Blocks.{record_bytes, mark_bytes}
-use Rattle.engine.specs.declared.engine.Recovered.{Recovered}
+use Rattle.journal.specs.Entries.{block_read, write_entry_calls}
+use Rattle.engine.specs.declared.engine.FoundEntries.{FoundEntries}
 use Rattle.engine.specs.declared.engine.Mode.{Mode}
 use Rattle.engine.specs.declared.engine.Mode.TheVariants.{Open, Down, Refused}
 use Rattle.engine.specs.View.{View}
 use Rattle.engine.specs.Opening.{opening_view}
 use Rattle.engine.specs.Instructing.{check_answer}
 
--- those of an entry: record and sync, mark and sync, up to the first that finds no call left
-abbrev pub entry_calls : ℕ → Instruction → ℕ → List DeviceCall
-entry_calls k x left = take (left + 1) (writing (record_at k) (record_bytes k x) ∷ syncing ∷ writing (mark_at k) (mark_bytes k) ∷ syncing ∷ [])
-
 -- those of an instruction: none where a check refuses it
 abbrev pub instruct_calls : Rulebook → Instruction → View → List DeviceCall
-instruct_calls h x v = if_ok (check_answer h x v) (entry_calls v.entry_count x v.medium.calls_left) []
-
--- a read of a whole block
-abbrev pub block_read : ℕ → DeviceCall
-block_read b = reading b BLOCK_SIZE
+instruct_calls h x v =
+    if_ok (check_answer h x v) (write_entry_calls v.entry_count x v.medium.calls_left) []
 
 -- the mark and the record of each of the first n entries, one entry after another
 unfoldable pub entry_reads : ℕ → List DeviceCall
 entry_reads zero = []
 entry_reads (suc n) = entry_reads n ++ (block_read (mark_at n) ∷ block_read (record_at n) ∷ [])
 
--- of one entry: its mark, and its record unless the mark ends the list
+-- of entry k: its mark, and its record unless the mark ends the list
 abbrev pub turn_reads : Result (Option Instruction) Fault → ℕ → List DeviceCall
 turn_reads (Ok None) k = block_read (mark_at k) ∷ []
 turn_reads (Ok (Some x)) k = block_read (mark_at k) ∷ block_read (record_at k) ∷ []
 turn_reads (Err f) k = block_read (mark_at k) ∷ block_read (record_at k) ∷ []
 
--- of a list that ended well: its entries, and the mark that is not good where there is another pair
+-- of a list that ended well: its entries, and the mark that is not good where there is another
+-- pair
 abbrev pub list_reads : ℕ → ℕ → List DeviceCall
 list_reads found pairs =
-    entry_reads found ++ cond (nat_lt found pairs) (block_read (mark_at found) ∷ []) []
+    entry_reads found ++ (if nat_lt found pairs then block_read (mark_at found) ∷ [] else [])
 
--- of one that was refused: the entries up to the one that the fault names; none where it names none,
--- since then the header was refused
+-- of one that was refused: the entries up to the one that the fault names; none where it names
+-- none, since then the header was refused
 abbrev pub refused_reads : Option ℕ → List DeviceCall
 refused_reads None = []
 refused_reads (Some k) = entry_reads (k + 1)
 
--- what is read after the header, by what was found
-abbrev pub found_reads : Result Recovered Fault → ℕ → List DeviceCall
-found_reads (Ok found) pairs = list_reads found.count pairs
-found_reads (Err f) pairs = refused_reads f.entry
+-- what is read after the header, by what the recovery answered
+abbrev pub recovery_reads : Result FoundEntries Fault → ℕ → List DeviceCall
+recovery_reads (Ok found) pairs = list_reads found.count pairs
+recovery_reads (Err f) pairs = refused_reads f.entry
 
 -- and by what the engine is after the opening
-abbrev pub opened_reads : Mode → View → List DeviceCall
-opened_reads Open v = list_reads v.found v.pairs
-opened_reads (Down x) v = []
-opened_reads (Refused f) v = refused_reads f.entry
+abbrev pub view_reads : Mode → View → List DeviceCall
+view_reads Open v = list_reads v.found v.pairs
+view_reads (Down x) v = []
+view_reads (Refused f) v = refused_reads f.entry
 
--- Those of an opening: the header's, then mark and record of each entry, up to the first that finds
--- no call left.
+-- Those of an opening: the header's, then mark and record of each entry, up to the first that
+-- finds no call left.
 abbrev pub opening_calls : Rulebook → Medium → List DeviceCall
 opening_calls h m =
-    let v = opening_view h m in take (m.calls_left + 1) (block_read 0 ∷ opened_reads v.mode v)
+    let v = opening_view h m in take (m.calls_left + 1) (block_read 0 ∷ view_reads v.mode v)

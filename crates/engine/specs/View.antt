@@ -1,4 +1,4 @@
--- What an engine is, by the meaning of its parts. Assumes nothing.
+-- What a contract sees of an engine.
 use Rattle.std.specs.Prelude.{ℕ, Option}
 use Rattle.instruction.specs.declared.Instruction.{Instruction}
 use Rattle.rulebook.specs.Rules.{Standing}
@@ -14,14 +14,22 @@ pub record View : Type 0 where
   pub medium : Medium
   -- books and trades
   pub standing : Standing
-  -- entries that the journal has room for
+  -- how many entries the journal has room for
   pub pairs : ℕ
-  -- entries that the opening found, and the last of them
+  -- how many entries the opening found, and the instruction of the last of them
   pub found : ℕ
   pub last_found : Option Instruction
-  -- entries that stand
+  -- how many entries stand
   pub entry_count : ℕ
 
-abbrev pub view : {D R C : Type 0} {d : device.Ghosts D} {r : book.Ghosts R} {c : book.Ghosts C} → (D → Medium) → Engine D R C d r c → View
-view m e =
-    record { mode = e.mode; medium = m e.device; standing = standing_of e.ledger; pairs = e.pairs; found = e.found.count; last_found = e.found.last; entry_count = e.count }
+abbrev pub view : {D R C : Type 0} {d : device.Ghosts D} {r : book.Ghosts R} {c : book.Ghosts C}
+    → (D → Medium) → Engine D R C d r c → View
+view m e = record {
+  mode = e.mode;
+  medium = m e.device;
+  standing = standing_of e.ledger;
+  pairs = e.pairs;
+  found = e.found.count;
+  last_found = e.found.last;
+  entry_count = e.entry_count;
+}

@@ -1,4 +1,4 @@
-// Closing: the device and the books come out again, with a slip that is owed.
+// Closing an engine: its device and its books come out again.
 ghost use Rattle.std.specs.Prelude.{◌≡◌};
 ghost use Rattle.rulebook.specs.Terms.{securities as in_securities, cash as in_cash};
 ghost use Rattle.engine.specs.View.{view};
@@ -11,6 +11,9 @@ use book::Book;
 use device::Device;
 
 impl<D: Device, R: Book, C: Book> Engine<D, R, C> {
+    /// Gives the device and the books back, with a closing slip. The slip says how many entries
+    /// stand, and which instruction is in hand if power went; it says nothing where the opening
+    /// was refused.
     pub fn close(self) -> (D, R, C, Slip)
         ensures device { result.0 ≡ self.device }
         ensures register { R.holdings result.1 ≡ (view D.medium self).standing.book in_securities }
@@ -22,7 +25,7 @@ impl<D: Device, R: Book, C: Book> Engine<D, R, C> {
             device,
             ledger,
             mode,
-            count,
+            entry_count,
             pairs: _,
             found: _,
         } = self;
@@ -31,14 +34,14 @@ impl<D: Device, R: Book, C: Book> Engine<D, R, C> {
             Mode::Down(x) => Some(x),
             Mode::Refused(_) => {
                 let (register, cash) = ledger.into_books();
-                return (device, register, cash, Slip::owed(None));
+                return (device, register, cash, Slip::new(None));
             }
         };
         let (register, cash) = ledger.into_books();
         let holds = Contents {
-            entries: count,
+            entries: entry_count,
             hand,
         };
-        (device, register, cash, Slip::owed(Some(holds)))
+        (device, register, cash, Slip::new(Some(holds)))
     }
 }

@@ -4,3 +4,6 @@ pub mod Blanks
 pub mod Fresh
 pub mod Placing
 pub mod Tracks
+pub mod Entries
+pub mod Errors
+pub mod ReadAnswers

@@ -3,3 +3,5 @@ pub mod Blocks
 pub mod Reading
 pub mod Format
 pub mod Places
+pub mod Entries
+pub mod Headers

@@ -4,8 +4,9 @@ use Rattle.rulebook.specs.Rules.{answer}
 use Rattle.rulebook.proofs.Following.{accepted}
 use Rattle.ledger.specs.View.{rulebook_of, standing_of}
 use Rattle.ledger.proofs.Carried.{accepts}
-use Rattle.engine.proofs.Errors.{mapped}
-use Rattle.engine.proofs.Readings.{mark-spends, both-read}
+use Rattle.journal.proofs.Errors.{mapped}
+use Rattle.journal.proofs.ReadAnswers.{mark-spends}
+use Rattle.engine.proofs.Readings.{both-read}
 use Rattle.engine.proofs.opening.replay_entry.Goals as goal
 
 pub returns-in_err-map_err-clause-books : goal.returns-in_err-map_err-clause-books
@@ -28,15 +29,15 @@ pub returns-in_err-x-clause-trace : goal.returns-in_err-x-clause-trace
 returns-in_err-x-clause-trace g c =
     let p = err_from_is_err_and c.from_residual-in_err-x.result c.from_residual-in_err-x.ensures.1 in
     let some = mark-spends (g.D.Device.medium c.args.device.now) c.args.entry true (search rules) in
-    rw p.1 (both-read g.D.Device.makes _ _ some c.read_mark.ensures.trace c.read_entry.ensures.trace)
+    rw p.1 (both-read g.D.Device.makes _ _ some c.read_mark.ensures.trace c.read_record.ensures.trace)
 
 pub returns-in_err-map_err-clause-trace : goal.returns-in_err-map_err-clause-trace
 returns-in_err-map_err-clause-trace g c =
     let p = err_from_is_err_and c.from_residual-in_err-map_err.result c.from_residual-in_err-map_err.ensures.1 in
     let some = mark-spends (g.D.Device.medium c.args.device.now) c.args.entry true (search rules) in
-    rw p.1 (both-read g.D.Device.makes _ _ some c.read_mark.ensures.trace c.read_entry.ensures.trace)
+    rw p.1 (both-read g.D.Device.makes _ _ some c.read_mark.ensures.trace c.read_record.ensures.trace)
 
 pub returns-clause-trace : goal.returns-clause-trace
 returns-clause-trace g c =
     let some = mark-spends (g.D.Device.medium c.args.device.now) c.args.entry true (search rules) in
-    both-read g.D.Device.makes _ _ some c.read_mark.ensures.trace c.read_entry.ensures.trace
+    both-read g.D.Device.makes _ _ some c.read_mark.ensures.trace c.read_record.ensures.trace

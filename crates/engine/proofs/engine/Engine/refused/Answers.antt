@@ -1,4 +1,0 @@
-use Rattle.engine.proofs.engine.Engine.refused.Goals as goal
-
-pub returns-clause-refused : goal.returns-clause-refused
-returns-clause-refused g c = cc
