@@ -1,4 +1,4 @@
-//! The proved engine.
+//! The proved engine, behind the rows.
 
 use crate::rows::{Answer, Call, Setup, Timing};
 
@@ -26,7 +26,7 @@ extern "C" {
 
 /// Answers the calls, and changes image and data as they do.
 pub fn run(setup: &Setup, image: &mut [u8], data: &mut [u8], calls: &[Call]) -> Vec<Answer> {
-    // A number that no call is answered, so that a row that is not filled is seen.
+    // No call is answered this number, so a row that is left unfilled shows.
     let mut answers = vec![Answer::of_number(254); calls.len()];
     // SAFETY: the library reads and writes the given slices within their lengths, and keeps none of them.
     let status = unsafe {

@@ -198,7 +198,7 @@ fn held<F: Into<Fault>>(answer: Result<(u64, u64), F>) -> Answer {
     answer.map_or_else(|fault| Answer::of_fault(fault.into()), |(free, blocked)| Answer::telling(free, blocked))
 }
 
-/// The bytes that a call takes, if all of them are there.
+/// The bytes that a call uses, if all of them are there.
 fn bytes_of<'a>(call: &Call, data: &'a mut [u8]) -> Option<&'a mut [u8]> {
     let from = call.from as usize;
     data.get_mut(from..from + call.length as usize)

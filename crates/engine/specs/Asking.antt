@@ -23,8 +23,8 @@ if_answering Open r = r
 if_answering (Down x) r = r
 if_answering (Refused f) r = Err (numbered 41)
 
--- What the slip of a closing says, where n entries stand: their number, and what is in hand if power
--- went; nothing where the opening was refused.
+-- What the slip of a closing says, where n entries stand: their number, and what is in hand if
+-- power went; nothing where the opening was refused.
 abbrev pub contents_by_mode : Mode → ℕ → Option Contents
 contents_by_mode Open n = Some (record { entries = n; hand = None })
 contents_by_mode (Down x) n = Some (record { entries = n; hand = Some x })

@@ -1,4 +1,4 @@
--- What an opening finds and why it is refused, on a device that may hold anything.
+-- What an opening finds on a device that may hold anything, and why it is refused.
 use Rattle.std.specs.Prelude.{◌≡◌, ℕ, ◌+◌, ◌*◌, ◌<◌, ◌≤◌, ◌⊎◌, List, Some, None, Err, Option, ◌≢◌}
 use Rattle.refusals.specs.Numbers.{number_of}
 use Rattle.refusals.specs.declared.Refusal.{Refusal}
@@ -20,30 +20,33 @@ use Rattle.engine.specs.Opening.{header_for_books, last_of}
 use Rattle.engine.specs.Instructing.{named_trade}
 use Rattle.engine.specs.Lasting.{entry_instruction, standing_list}
 
+-- the mark of entry k is good
 abbrev pub HasGoodMark : Medium → ℕ → Type 0
 HasGoodMark m k = m.holds (mark_at k) ≡ Some (mark_bytes k)
 
--- On the device m stand the header of a journal for these books, with blocks for its pairs, and n
--- entries: good marks, each with its record, and the list that those records say. The rules accept it
--- one instruction after another, and it leads to s.
+-- On the device m stand the header of a journal for these books and n entries, and they lead to s.
 pub record EntriesStand (h : Rulebook) (m : Medium) (pairs n : ℕ) (s : Standing) : Type 0 where
   pub head : m.holds 0 ≡ Some (header_bytes (header_for_books h pairs))
   pub some : 0 < pairs
+  -- the device has blocks for all pairs
   pub fits : Fits pairs m
   pub within : n ≤ pairs
+  -- each entry has a good mark, and a record that says an instruction
   pub marks : (k : ℕ) → k < n → HasGoodMark m k
-  pub records : (k : ℕ) → k < n → m.holds (record_at k) ≡ Some (record_bytes k (entry_instruction m k))
+  pub records : (k : ℕ) → k < n
+      → m.holds (record_at k) ≡ Some (record_bytes k (entry_instruction m k))
+  -- the rules accept those instructions one after another, and they lead to s
   pub list : Runs h (standing_list m n) s
 
--- What an engine whose opening was answered 0 found: the entries up to the first mark that is not
--- good, or to the last pair.
+-- An engine whose opening was answered 0 found these entries.
 pub record FindsEntries (h : Rulebook) (m : Medium) (v : View) : Type 0 where
   pub entries : EntriesStand h m v.pairs v.found v.standing
+  -- the list ends where a mark is not good, or after the last pair
   pub stop : v.found < v.pairs → HasGoodMark m v.found → ⊥
   pub last_found : v.last_found ≡ last_of (standing_list m v.found)
   pub entry_count : v.entry_count ≡ v.found
 
--- a fault with the number n that names the block b and the entry k, if any, no trade and no rule
+-- a fault with the number n that names this block and this entry, if any, and no trade and no rule
 pub record IsFault (n : ℕ) (b k : Option ℕ) (f : Fault) : Type 0 where
   pub number : number_of f.refusal ≡ n
   pub block : f.block ≡ b
@@ -51,29 +54,31 @@ pub record IsFault (n : ℕ) (b k : Option ℕ) (f : Fault) : Type 0 where
   pub trade : f.trade ≡ None
   pub rule : f.rule ≡ None
 
--- why the header is refused with the fault f; each reason leaves out the ones before it
+-- Why the header is refused with the fault f. Each reason excludes the ones before it.
 pub data RefusesHeader (h : Rulebook) (m : Medium) (f : Fault) : Type 0 where
   -- the device has no block
   no-block : m.size ≡ 0 → IsFault 11 (Some 0) None f → RefusesHeader h m f
+  -- no call is left
   no-header-call : 0 < m.size → m.calls_left ≡ 0 → IsFault 13 (Some 0) None f → RefusesHeader h m f
+  -- block 0 cannot be read
   unreadable-header : 0 < m.size → 0 < m.calls_left → m.holds 0 ≡ None
       → IsFault 14 (Some 0) None f → RefusesHeader h m f
   -- block 0 is no header that a journal can have
   no-header : 0 < m.calls_left → (bs : List ℕ) → m.holds 0 ≡ Some bs
       → ((head : Header) → IsProperHeader head → header_bytes head ≢ bs)
       → IsFault 43 None None f → RefusesHeader h m f
-  -- it is one of books of other kinds
-  other-kinds : 0 < m.calls_left → (head : Header) → IsProperHeader head → m.holds 0 ≡ Some (header_bytes head)
+  -- it is the header of a journal for books of other kinds
+  other-kinds : 0 < m.calls_left → (head : Header) → IsProperHeader head
+      → m.holds 0 ≡ Some (header_bytes head)
       → (head.register ≡ (h.book_kind securities).code → head.cash ≡ (h.book_kind cash).code → ⊥)
       → IsFault 44 None None f → RefusesHeader h m f
-  -- it is one of more pairs than the device has blocks for
+  -- the device has too few blocks for its pairs
   too-few-blocks : 0 < m.calls_left → (head : Header) → IsProperHeader head
       → m.holds 0 ≡ Some (header_bytes head)
       → head.register ≡ (h.book_kind securities).code → head.cash ≡ (h.book_kind cash).code
       → m.size < 1 + 2 * head.pairs → IsFault 45 None None f → RefusesHeader h m f
 
--- The fault of entry k, whose instruction x the rules refuse with r. It names the trade where the
--- kind is 3 to 7.
+-- the fault of entry k, whose instruction x the rules refuse with r
 pub record IsRuleFault (k : ℕ) (x : Instruction) (r : Refusal) (f : Fault) : Type 0 where
   pub number : number_of f.refusal ≡ 47
   pub block : f.block ≡ None
@@ -81,27 +86,29 @@ pub record IsRuleFault (k : ℕ) (x : Instruction) (r : Refusal) (f : Fault) : T
   pub trade : f.trade ≡ named_trade x
   pub rule : f.rule ≡ Some r
 
--- Why entry k is refused with the fault f, where the entries before it lead to s. One call read the
--- header, and two each of the entries before it.
+-- Why entry k is refused with the fault f, where the entries before it lead to s. One call read
+-- the header, and two each of the entries before it.
 pub data RefusesEntry (h : Rulebook) (m : Medium) (k : ℕ) (s : Standing) (f : Fault) : Type 0 where
-  -- no call is left for the mark,
+  -- no call is left for the mark
   no-mark-call : m.calls_left ≡ 1 + 2 * k
       → IsFault 13 (Some (mark_at k)) (Some k) f → RefusesEntry h m k s f
-  -- or for the record after a good mark
+  -- the mark is good, and no call is left for the record
   no-record-call : HasGoodMark m k → m.calls_left ≡ 2 + 2 * k
       → IsFault 13 (Some (record_at k)) (Some k) f → RefusesEntry h m k s f
+  -- the mark is good, and the record cannot be read
   unreadable-record : HasGoodMark m k → 2 + 2 * k < m.calls_left → m.holds (record_at k) ≡ None
       → IsFault 14 (Some (record_at k)) (Some k) f → RefusesEntry h m k s f
-  -- the block is the record of no instruction
-  malformed : HasGoodMark m k → 2 + 2 * k < m.calls_left → (bs : List ℕ) → m.holds (record_at k) ≡ Some bs
+  -- the mark is good, and its block is the record of no instruction
+  malformed : HasGoodMark m k → 2 + 2 * k < m.calls_left → (bs : List ℕ)
+      → m.holds (record_at k) ≡ Some bs
       → ((x : Instruction) → Fit x → record_bytes k x ≢ bs)
       → IsFault 46 None (Some k) f → RefusesEntry h m k s f
-  -- it is the record of an instruction that the rules refuse
+  -- the mark is good, and the rules refuse the instruction of its record
   rules-refuse : HasGoodMark m k → 2 + 2 * k < m.calls_left → (x : Instruction)
       → m.holds (record_at k) ≡ Some (record_bytes k x)
       → (r : Refusal) → answer h s x ≡ Err r → IsRuleFault k x r f → RefusesEntry h m k s f
 
--- An opening refused with the fault f at an entry: those before it stand, and it is refused.
+-- an opening is refused with the fault f at an entry, and the entries before it stand
 pub record RefusesList (h : Rulebook) (m : Medium) (f : Fault) : Type 0 where
   pub pairs : ℕ
   pub entry : ℕ
@@ -110,7 +117,7 @@ pub record RefusesList (h : Rulebook) (m : Medium) (f : Fault) : Type 0 where
   pub before : EntriesStand h m pairs entry standing
   pub refused : RefusesEntry h m entry standing f
 
--- an engine whose opening was refused has nothing
+-- an engine whose opening was refused has no list, and empty books and trades
 pub record FindsNothing (v : View) : Type 0 where
   pub standing : v.standing ≡ empty
   pub pairs : v.pairs ≡ 0
@@ -118,12 +125,14 @@ pub record FindsNothing (v : View) : Type 0 where
   pub last_found : v.last_found ≡ None
   pub entry_count : v.entry_count ≡ 0
 
--- by the mode after the opening; none ends with an instruction half written
+-- What an opening promises, by the mode after it. It never ends with an instruction in hand.
 abbrev pub Opens : Rulebook → Medium → View → Mode → Type 0
 Opens h m v Open = FindsEntries h m v
 Opens h m v (Down x) = ⊥
 Opens h m v (Refused f) = FindsNothing v × (RefusesHeader h m f ⊎ RefusesList h m f)
 
--- where there is something to be found, and the calls to read it, the opening is not refused
+-- an opening is not refused where entries stand that it can find, and the calls suffice to read
+-- them
 abbrev pub OpensIfEnoughCalls : Rulebook → Medium → Mode → Type 0
-OpensIfEnoughCalls h m mode = (w : View) → FindsEntries h m w → 1 + 2 * w.pairs ≤ m.calls_left → mode ≡ Open
+OpensIfEnoughCalls h m mode =
+    (w : View) → FindsEntries h m w → 1 + 2 * w.pairs ≤ m.calls_left → mode ≡ Open

@@ -23,7 +23,8 @@ abbrev pub room_answer : Instruction → View → Answer
 room_answer x v =
     if nat_le v.pairs v.entry_count then Err (fault_of x (numbered 36)) else Ok tt
 
--- the checks of an instruction in order, before anything is written: the engine, the rules, the room
+-- the checks of an instruction in order, before anything is written: the engine, the rules, the
+-- room
 abbrev pub check_answer : Rulebook → Instruction → View → Answer
 check_answer h x v = if_open v.mode x (and_then (fault_answer h v.standing x) (room_answer x v))
 
@@ -69,9 +70,10 @@ Leaves (Ok u) (Ok w) x v v' = Accepts x v v'
 Leaves (Ok u) (Err f) x v v' = CutsOff x v v'
 
 -- an instruction is answered r, and leads the engine from v to v'
-pub record TakesInstruction (h : Rulebook) (x : Instruction) (v v' : View) (r : Answer) : Type 0 where
-  pub answer : r ≡ instruct_answer h x v
-  pub after : Leaves (check_answer h x v) (write_entry_answer v.medium v.entry_count) x v v'
+pub record TakesInstruction (h : Rulebook) (x : Instruction) (v v' : View) (r : Answer) : Type 0
+  where
+    pub answer : r ≡ instruct_answer h x v
+    pub after : Leaves (check_answer h x v) (write_entry_answer v.medium v.entry_count) x v v'
 
 -- What the checks ask for: the engine is open, the rules accept the instruction, and an entry is
 -- left for it.
@@ -91,8 +93,8 @@ pub record IsFaultOf (x : Instruction) (b k : Option ℕ) (f : Fault) : Type 0 w
   pub trade : f.trade ≡ named_trade x
   pub rule : f.rule ≡ None
 
--- The block of the write that found no call left, by the calls left for entry k: that of its record,
--- of its mark, or none where it was a sync that found none.
+-- The block of the write that found no call left, by the calls left for entry k: that of its
+-- record, of its mark, or none where it was a sync that found none.
 abbrev pub block_without_call : ℕ → ℕ → Option ℕ
 block_without_call k calls_left =
     if calls_left == 0 then Some (record_at k)
@@ -100,11 +102,11 @@ block_without_call k calls_left =
 
 -- When an instruction takes the engine down, and what its fault names.
 pub record TellsWhenDown (h : Rulebook) (x : Instruction) (v v' : View) (r : Answer) : Type 0 where
-  -- the answer is 13 only where the checks pass and fewer than 4 calls are left,
+  -- the answer is 13 only where the instruction passes and the device has fewer than 4 calls left,
   pub only : fault_number r ≡ 13 → Passes h x v × (v.medium.calls_left < 4)
   -- and always there
   pub always : Passes h x v → v.medium.calls_left < 4 → fault_number r ≡ 13
-  -- the instruction is then in hand, and the engine is down
+  -- the engine is then down, with the instruction in hand
   pub hand : fault_number r ≡ 13 → v'.mode ≡ Down x
   -- such a fault names the entry, and the block of a write
   pub cut : (f : Fault) → r ≡ Err f → number_of f.refusal ≡ 13

@@ -28,7 +28,8 @@ answer_by_mark h m s k (Ok false) = Ok None
 answer_by_mark h m s k (Ok true) =
     answer_by_record h s k (read_record_answer (after_reads 1 m) k)
 
--- entry k, where books and trades stand at s: its instruction, or None where the list ends before it
+-- entry k, where books and trades stand at s: its instruction, or None where the list ends before
+-- it
 abbrev pub entry_answer : Rulebook → Medium → Standing → ℕ → Result (Option Instruction) Fault
 entry_answer h m s k = answer_by_mark h m s k (read_mark_answer m k)
 

@@ -31,13 +31,14 @@ turn_reads (Ok None) k = block_read (mark_at k) ∷ []
 turn_reads (Ok (Some x)) k = block_read (mark_at k) ∷ block_read (record_at k) ∷ []
 turn_reads (Err f) k = block_read (mark_at k) ∷ block_read (record_at k) ∷ []
 
--- of a list that ended well: its entries, and the mark that is not good where there is another pair
+-- of a list that ended well: its entries, and the mark that is not good where there is another
+-- pair
 abbrev pub list_reads : ℕ → ℕ → List DeviceCall
 list_reads found pairs =
     entry_reads found ++ (if nat_lt found pairs then block_read (mark_at found) ∷ [] else [])
 
--- of one that was refused: the entries up to the one that the fault names; none where it names none,
--- since then the header was refused
+-- of one that was refused: the entries up to the one that the fault names; none where it names
+-- none, since then the header was refused
 abbrev pub refused_reads : Option ℕ → List DeviceCall
 refused_reads None = []
 refused_reads (Some k) = entry_reads (k + 1)
@@ -53,8 +54,8 @@ view_reads Open v = list_reads v.found v.pairs
 view_reads (Down x) v = []
 view_reads (Refused f) v = refused_reads f.entry
 
--- Those of an opening: the header's, then mark and record of each entry, up to the first that finds
--- no call left.
+-- Those of an opening: the header's, then mark and record of each entry, up to the first that
+-- finds no call left.
 abbrev pub opening_calls : Rulebook → Medium → List DeviceCall
 opening_calls h m =
     let v = opening_view h m in take (m.calls_left + 1) (block_read 0 ∷ view_reads v.mode v)

@@ -1,4 +1,4 @@
-// Closing: the device and the books come out again, with a slip that is owed.
+// Closing an engine: its device and its books come out again.
 ghost use Rattle.std.specs.Prelude.{◌≡◌};
 ghost use Rattle.rulebook.specs.Terms.{securities as in_securities, cash as in_cash};
 ghost use Rattle.engine.specs.View.{view};
@@ -11,6 +11,9 @@ use book::Book;
 use device::Device;
 
 impl<D: Device, R: Book, C: Book> Engine<D, R, C> {
+    /// Gives the device and the books back, with a closing slip. The slip says how many entries
+    /// stand, and which instruction is in hand if power went; it says nothing where the opening
+    /// was refused.
     pub fn close(self) -> (D, R, C, Slip)
         ensures device { result.0 ≡ self.device }
         ensures register { R.holdings result.1 ≡ (view D.medium self).standing.book in_securities }

@@ -1,4 +1,4 @@
-// Opening: the header, then the entries from the first on, until a mark is not good.
+// Opening: the header, then one entry after another until a mark is not good.
 ghost use Rattle.std.specs.Prelude.{◌≡◌, ℕ, ◌+◌, ◌-◌, ◌*◌, ◌<◌, ◌≤◌, true, false, [], ◌∷◌, take, IfOk, None, Ok};
 ghost use Rattle.rulebook.specs.Rules.{empty};
 ghost use Rattle.ledger.specs.View.{rulebook_of, standing_of};
@@ -13,7 +13,7 @@ ghost use Rattle.journal.specs.Entries.{after_reads, block_read, read_mark_answe
 ghost use Rattle.journal.specs.Headers.{Fits, after_read_header, read_header_answer};
 ghost use Rattle.engine.specs.View.{view};
 
-use crate::engine::{Engine, Mode, FoundEntries};
+use crate::engine::{Engine, FoundEntries, Mode};
 use book::Book;
 use device::Device;
 use instruction::Instruction;
@@ -21,7 +21,8 @@ use journal::{MOST_PAIRS, read_header, read_mark, read_record};
 use ledger::Ledger;
 use refusals::Fault;
 
-// Reads an entry and carries out its instruction; None where its mark is not good, which ends the list.
+// Reads an entry and carries out its instruction. The answer is None where the mark is not good,
+// which ends the list.
 fn replay_entry<D: Device, R: Book, C: Book>(
     device: &mut D,
     ledger: &mut Ledger<R, C>,
@@ -44,7 +45,7 @@ fn replay_entry<D: Device, R: Book, C: Book>(
     Ok(Some(x))
 }
 
-// Carries out the entries of a journal in order, up to the first mark not good.
+// Carries out the entries of a journal in order, up to the end of the list.
 fn replay<D: Device, R: Book, C: Book>(
     device: &mut D,
     ledger: &mut Ledger<R, C>,
@@ -52,8 +53,8 @@ fn replay<D: Device, R: Book, C: Book>(
 ) -> Result<FoundEntries, Fault>
     requires few { pairs ≤ MOST_PAIRS }
     requires within { 1 + 2 * pairs ≤ (D.medium device.old).size }
-    ensures scanned { FollowsScan
-        (scan (rulebook_of R.book_kind C.book_kind) pairs (D.medium device.old) 0 (standing_of ledger.old) None)
+    ensures scanned { let h = rulebook_of R.book_kind C.book_kind in FollowsScan
+        (scan h pairs (D.medium device.old) 0 (standing_of ledger.old) None)
         (D.medium device.old) (D.medium device.new) (standing_of ledger.new) result }
     ensures within { IfOk result (λ found. found.count ≤ pairs) }
     ensures trace { let left = (D.medium device.old).calls_left in
@@ -61,7 +62,7 @@ fn replay<D: Device, R: Book, C: Book>(
 {
     let mut done: u32 = 0;
     let mut last = None;
-    // The loop breaks with the count found, at the first mark not good or past the last pair.
+    // The list ends where a mark is not good, or after the last pair.
     let count = loop {
         if done >= pairs {
             break done;
@@ -76,12 +77,24 @@ fn replay<D: Device, R: Book, C: Book>(
 }
 
 impl<D: Device, R: Book, C: Book> Engine<D, R, C> {
-    // Moves the device and the books in, and always gives an engine, which keeps the opening's answer.
+    /// Opens the journal on a device, for these two books: it reads the header, then each entry's
+    /// mark and record, and carries out the instructions. It makes no other calls than reads.
+    ///
+    /// It always gives an engine. Where the opening is refused, `opening` tells the fault, and
+    /// books and trades are cleared:
+    ///
+    /// - 11, 13, 14, 43, 44 or 45: the header could not be read, or does not fit the books and
+    ///   the device (`journal::read_header` says which is which).
+    /// - 13, 14 or 46, with the entry: a mark or a record could not be read
+    ///   (`journal::read_mark`, `journal::read_record`).
+    /// - 47, with the entry and the rule's number: the rules refuse the instruction of a record.
     pub fn open(mut device: D, register: R, cash: C) -> Self
-        ensures opened { view D.medium result ≡ opening_view (rulebook_of R.book_kind C.book_kind) (D.medium device) }
+        ensures opened { view D.medium result
+            ≡ opening_view (rulebook_of R.book_kind C.book_kind) (D.medium device) }
         ensures found { let v = view D.medium result in
             Opens (rulebook_of R.book_kind C.book_kind) (D.medium device) v v.mode }
-        ensures prompt { OpensIfEnoughCalls (rulebook_of R.book_kind C.book_kind) (D.medium device) (view D.medium result).mode }
+        ensures prompt { OpensIfEnoughCalls (rulebook_of R.book_kind C.book_kind)
+            (D.medium device) (view D.medium result).mode }
         ensures kept { SameBlocks (D.medium device) (D.medium result.device) }
         ensures trace { let h = rulebook_of R.book_kind C.book_kind in
             IsTrace D.makes (opening_calls h (D.medium device)) device result.device }
@@ -95,7 +108,7 @@ impl<D: Device, R: Book, C: Book> Engine<D, R, C> {
         }
     }
 
-    // The engine of a journal with so many pairs.
+    // The engine that the entries of a journal with so many pairs lead to.
     fn from_entries(mut device: D, mut ledger: Ledger<R, C>, pairs: u32) -> Self
         requires fits { Fits pairs (D.medium device) }
         requires empty { standing_of ledger ≡ empty }
@@ -118,7 +131,7 @@ impl<D: Device, R: Book, C: Book> Engine<D, R, C> {
         }
     }
 
-    // Clears books and trades again.
+    // The engine of a refused opening: books and trades are cleared again.
     fn from_refusal(device: D, mut ledger: Ledger<R, C>, fault: Fault) -> Self
         ensures refused { view D.medium result ≡ refused_view fault (D.medium device) }
         ensures device { result.device ≡ device }

@@ -1,31 +1,35 @@
-// The closing slip: plain numbers, owed until it is presented or filed.
+// The closing slip, which is owed until it is presented or filed, and the verdict on one.
 ghost use Rattle.std.specs.Prelude.{◌≡◌, true, is_some};
 ghost use Rattle.engine.specs.ClosingSlip.{contents, IsOwed, slip_verdict, HasVerdict, verdict_number, verdict_place, presented_number, PresentedApart, is_last_found};
 
 use instruction::Instruction;
 use refusals::{Place, Refusal};
 
-// What a slip tells: the number of standing entries, and the instruction in hand.
+/// What a closing slip says of the engine that was closed.
 #[derive(Clone, Copy, Debug, PartialEq, Eq)]
 pub struct Contents {
+    /// How many entries stood, 0 to `journal::MOST_PAIRS`.
     pub entries: u32,
+    /// The instruction in hand: the one that was being written when power went.
     pub hand: Option<Instruction>,
 }
 
-// What an engine says of a slip that is presented to it, by the number that operators know it by.
+/// What an engine says of a closing slip that is presented to it. The discriminants are the
+/// numbers that operators know.
 #[derive(Clone, Copy, Debug, PartialEq, Eq)]
 pub enum Verdict {
-    // as many entries were found as stood
+    /// 0: the opening found as many entries as stood at the closing.
     Same = 0,
-    // one more was found, and it is the instruction in hand: it stands
+    /// 1: it found one more, and that is the instruction in hand. So the instruction stands.
     Stands = 1,
-    // the slip tells nothing
+    /// 53: the slip says nothing.
     Unknown = 53,
-    // anything else
+    /// 54: any other case.
     Differs = 54,
 }
 
 impl Verdict {
+    /// The verdict's number, as operators know it.
     #[tactic(auto, using(crate::proofs::Verdicts::presented_apart))]
     pub fn number(self) -> u8
         ensures value { result ≡ verdict_number self }
@@ -34,7 +38,7 @@ impl Verdict {
         self as u8
     }
 
-    // The part that gives verdicts.
+    /// The part of the house that gives verdicts.
     pub fn place(self) -> Place
         ensures { result ≡ verdict_place self }
     {
@@ -44,8 +48,8 @@ impl Verdict {
     }
 }
 
-/// The number of what a slip that was presented is answered: the verdict's, or the refusal's. No two
-/// answers share one.
+/// The number of what a slip that was presented is answered: the verdict's, or the refusal's. No
+/// two answers share one.
 pub fn presented_number(presented: Result<Verdict, Refusal>) -> u8
     ensures { result ≡ presented_number presented }
 {
@@ -55,13 +59,17 @@ pub fn presented_number(presented: Result<Verdict, Refusal>) -> u8
     }
 }
 
-// A slip tells nothing where the opening was refused. That it was spent is a flag, since its drop demands it.
+/// A closing slip: plain numbers that an operator keeps from a closing to the next opening. It is
+/// owed: it cannot be dropped before it is presented to an engine or filed. It says nothing where
+/// the opening of the engine that was closed had been refused.
+#[derive(Debug)]
 pub struct Slip {
     holds: Option<Contents>,
+    // presented or filed
     spent: bool,
 }
 
-// Nothing can let a slip go that was not spent.
+// A slip that is owed cannot be dropped.
 impl Drop for Slip {
     fn drop(self)
         requires { self.spent ≡ true }
@@ -71,6 +79,7 @@ impl Drop for Slip {
 }
 
 impl Slip {
+    // A new slip is owed.
     pub(crate) fn new(holds: Option<Contents>) -> Slip
         ensures holds { contents result ≡ holds }
         ensures owed { IsOwed result }
@@ -81,14 +90,15 @@ impl Slip {
         }
     }
 
-    // Whether the slip tells anything.
+    /// Whether the slip says anything.
     pub fn is_known(&self) -> bool
         ensures { result ≡ is_some (contents self.now) }
     {
         self.holds.is_some()
     }
 
-    // Answers what the slip holds, and never refuses.
+    /// Files the slip, in place of presenting it, and gives what it says, if anything. The slip is
+    /// then no longer owed.
     pub fn file(mut self) -> Option<Contents>
         ensures { result ≡ contents self }
     {
@@ -96,7 +106,7 @@ impl Slip {
         self.holds
     }
 
-    // The verdict where so many entries were found, with this one the last.
+    // The verdict where so many entries were found, and this instruction is the last of them.
     pub(crate) fn verdict(self, found: u32, last: Option<Instruction>) -> Verdict
         ensures value { result ≡ slip_verdict (contents self) found last }
         ensures exact { HasVerdict (contents self) found last result }
@@ -114,7 +124,7 @@ impl Slip {
     }
 }
 
-// An instruction is in hand, and it is the last that was found.
+// Whether an instruction is in hand, and it is the last that was found.
 fn is_last_found(hand: Option<Instruction>, last: Option<Instruction>) -> bool
     ensures { result ≡ is_last_found hand last }
 {

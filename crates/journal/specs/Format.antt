@@ -19,8 +19,8 @@ abbrev pub no_room : ℕ → ℕ → Bool
 no_room pairs size =
     nat_lt pairs 1 || (nat_lt MOST_PAIRS pairs || nat_lt size (1 + 2 * pairs))
 
--- The answer to the calls of a format, by the calls left: zeros in place of a header, a sync, zeros
--- in place of each mark, a sync, the header, a sync.
+-- The answer to the calls of a format, by the calls left: zeros in place of a header, a sync,
+-- zeros in place of each mark, a sync, the header, a sync.
 abbrev pub format_answer : ℕ → Medium → Answer
 format_answer pairs m =
     if no_room pairs m.size then Err (fault 61)
@@ -110,6 +110,6 @@ abbrev pub format_calls : List ℕ → ℕ → ℕ → ℕ → List DeviceCall
 format_calls header pairs size calls_left =
     if no_room pairs size then []
     else take (calls_left + 1) (
-      writing 0 zeros ∷ syncing
-      ∷ (mark_writes pairs ++ (syncing ∷ writing 0 header ∷ syncing ∷ []))
+    writing 0 zeros ∷ syncing
+    ∷ (mark_writes pairs ++ (syncing ∷ writing 0 header ∷ syncing ∷ []))
     )

@@ -39,8 +39,8 @@ write_entry_answer m k =
     else (if m.calls_left == 2 then Err (fault_at 13 (mark_at k))
     else (if m.calls_left == 3 then Err (fault 13) else Ok tt)))
 
--- What the four calls of entry k leave, given the bytes of its record and of its mark, however many
--- of the calls there was power for: the mark is touched only once the record is safe.
+-- What the four calls of entry k leave, given the bytes of its record and of its mark, however
+-- many of the calls there was power for: the mark is touched only once the record is safe.
 pub record WritesEntry (entry mark : List ℕ) (k : ℕ) (m m' : Medium) : Type 0 where
   pub size : m'.size ≡ m.size
   pub calls_left : m'.calls_left ≡ m.calls_left - 4
@@ -71,9 +71,10 @@ module _ {X : Type 0} (L : JournalBlocks X) where
   abbrev pub Says : Medium → ℕ → X → Type 0
   Says m k x = (bs : List ℕ) × HoldsFirmly m (record_at k) bs × (L.read k bs ≡ Some x)
 
-  -- What stands at the first unused pair. With nothing in hand, its mark is not good and not loose.
-  -- With an instruction in hand, either the mark is not good and not loose; or the record surely says
-  -- the instruction, the mark may hold anything, and it is loose only if no calls are left.
+  -- What stands at the first unused pair. With nothing in hand, its mark is not good and not
+  -- loose. With an instruction in hand, either the mark is not good and not loose; or the record
+  -- surely says the instruction, the mark may hold anything, and it is loose only if no calls are
+  -- left.
   abbrev pub TailIs : Medium → ℕ → Option X → Type 0
   TailIs m n None = n < L.pairs → MarkIsBlank m n
   TailIs m n (Some x) =

@@ -14,7 +14,7 @@ abbrev pub four : List ℕ → ℕ → ℕ
 four bs i =
     byte bs i + 2 ^ 8 * byte bs (i + 1) + 2 ^ 16 * byte bs (i + 2) + 2 ^ 24 * byte bs (i + 3)
 
--- zeros from place n on
+-- only zeros from place n on
 abbrev pub ZeroFrom : ℕ → List ℕ → Type 0
 ZeroFrom n bs = (i : ℕ) → n ≤ i → byte bs i ≡ 0
 
@@ -30,7 +30,7 @@ pub record HeaderPlaces (register cash pairs : ℕ) (bs : List ℕ) : Type 0 whe
 pub record RecordPlaces (k : ℕ) (x : Instruction) (bs : List ℕ) : Type 0 where
   pub long : length bs ≡ BLOCK_SIZE
   pub entry : four bs 0 ≡ k
-  -- how many instructions it has, and three zeros
+  -- one instruction
   pub count : four bs 4 ≡ 1
   pub instruction : (i : ℕ) → i < 32 → byte bs (8 + i) ≡ byte (bytes_of x) i
   pub rest : ZeroFrom 40 bs
@@ -38,22 +38,26 @@ pub record RecordPlaces (k : ℕ) (x : Instruction) (bs : List ℕ) : Type 0 whe
 pub record MarkPlaces (k : ℕ) (bs : List ℕ) : Type 0 where
   pub long : length bs ≡ BLOCK_SIZE
   pub entry : four bs 0 ≡ k
-  -- the entry's number turned over
+  -- the complement of the entry's number
   pub complement : four bs 4 + k + 1 ≡ 2 ^ 32
   pub rest : ZeroFrom 8 bs
 
--- A format: the header in block 0, zeros in the even blocks after it, one for each pair, and all
--- others as they were.
+-- what a whole format leaves
 pub record FormatPlaces (register cash pairs : ℕ) (m m' : Medium) : Type 0 where
+  -- the header is in block 0
   pub head : (bs : List ℕ) × (m'.holds 0 ≡ Some bs) × HeaderPlaces register cash pairs bs
+  -- the even blocks after it, one for each pair, hold zeros
   pub even : (j : ℕ) → 0 < j → j ≤ pairs
       → (bs : List ℕ) × (m'.holds (2 * j) ≡ Some bs) × (length bs ≡ BLOCK_SIZE) × ZeroFrom 0 bs
+  -- all other blocks are as they were
   pub odd : (j : ℕ) → m'.holds (2 * j + 1) ≡ m.holds (2 * j + 1)
   pub beyond : (b : ℕ) → 2 * pairs < b → m'.holds b ≡ m.holds b
 
--- An entry k that is written: its record in the odd block 2k + 1, its mark in the even one after that,
--- and all others as they were.
+-- what a whole writing of entry k leaves
 pub record EntryPlaces (k : ℕ) (x : Instruction) (m m' : Medium) : Type 0 where
+  -- its record is in the odd block 2k + 1
   pub entry : (bs : List ℕ) × (m'.holds (2 * k + 1) ≡ Some bs) × RecordPlaces k x bs
+  -- its mark is in the even block after that
   pub mark : (bs : List ℕ) × (m'.holds (2 * k + 2) ≡ Some bs) × MarkPlaces k bs
+  -- all other blocks are as they were
   pub others : (b : ℕ) → b ≢ 2 * k + 1 → b ≢ 2 * k + 2 → m'.holds b ≡ m.holds b

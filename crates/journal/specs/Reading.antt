@@ -18,7 +18,8 @@ pub record IsProperHeader (h : Header) : Type 0 where
 -- 43 where no header has these bytes
 abbrev pub ReadsHeader : List ℕ → Result Header Refusal → Type 0
 ReadsHeader bs (Ok h) = IsProperHeader h × (header_bytes h ≡ bs)
-ReadsHeader bs (Err r) = (number_of r ≡ 43) × ((h : Header) → IsProperHeader h → header_bytes h ≢ bs)
+ReadsHeader bs (Err r) =
+    (number_of r ≡ 43) × ((h : Header) → IsProperHeader h → header_bytes h ≢ bs)
 
 -- yes for the good mark of entry k, and only for it
 pub record ReadsMark (k : ℕ) (bs : List ℕ) (r : Bool) : Type 0 where

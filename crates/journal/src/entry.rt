@@ -49,8 +49,8 @@ pub fn is_good_mark(block: &[u8; BLOCK_SIZE], entry: u32) -> bool
     *block == mark_block(entry)
 }
 
-/// The record of an entry, as bytes: the entry's number, the count of its instructions, which is 1,
-/// the instruction's 32 bytes, and zeros.
+/// The record of an entry, as bytes: the entry's number, the count of its instructions, which is
+/// 1, the instruction's 32 bytes, and zeros.
 pub fn record_block(entry: u32, x: &Instruction) -> [u8; BLOCK_SIZE]
     ensures value { result ≡ record_bytes entry x.now }
     ensures places { RecordPlaces entry x.now result }

@@ -1,7 +1,7 @@
 //! Times the proved engine and the twin, in one process and on the same input, by turns.
 //!
-//! What a call takes is the difference of two runs, one with it and one without, each the best of several: so the copying of
-//! the image into a device and out again, which both sides do alike, is not counted.
+//! What a call takes is the difference of two runs, one with it and one without, each the best of several. So copying the image
+//! into a device and out again, which both sides do alike, does not count.
 
 use std::hint::black_box;
 use std::time::{Duration, Instant};
@@ -18,7 +18,7 @@ const READ: u8 = 2;
 /// How many runs there are of each.
 const RUNS: usize = 9;
 
-/// How many instructions are given that are refused.
+/// How many refused instructions are given.
 const REFUSALS: u32 = 1_000_000;
 
 type Side = fn(&Setup, &mut [u8], &Timing) -> u64;
@@ -35,7 +35,7 @@ fn main() {
     }
 }
 
-/// A device of a size that a journal of so many entries fills.
+/// A device with just the blocks of a journal of so many entries.
 struct Case {
     name: &'static str,
     setup: Setup,
@@ -94,7 +94,7 @@ impl Case {
         }
     }
 
-    /// A full journal, which both sides find.
+    /// Makes a full journal in the image. Each side fills it, and has to find every entry again.
     fn make_journal(&self, image: &mut [u8]) {
         let once = Timing { rounds: 1, ..self.fill() };
         for side in SIDES {
@@ -116,7 +116,7 @@ impl Case {
         }
     }
 
-    /// Times one less the other, on both sides, and prints that in a unit.
+    /// Prints, for both sides and in a unit, how much longer one of the two takes than the other.
     fn show(&self, name: &str, unit: f64, image: &mut [u8], with: &Timing, without: &Timing) -> [f64; 2] {
         let mut best = [[Duration::MAX; 2]; 2];
         for _ in 0..RUNS {
@@ -145,7 +145,7 @@ impl Case {
     }
 }
 
-/// The seconds that so many sums of all bytes take.
+/// The seconds that it takes to sum all bytes so many times.
 fn sum(image: &[u8], rounds: u32) -> f64 {
     let mut best = Duration::MAX;
     for _ in 0..RUNS {
