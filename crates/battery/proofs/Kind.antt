@@ -1,17 +1,17 @@
 -- What the kind says of a call fixes the image and the calls left.
 use Rattle.std.proofs.Common.{sym, ◌∙◌}
 use Rattle.device.specs.Traces.{reading, writing, syncing, restarting, LeavesNothingOpen, ReadsKeep}
-use Rattle.device.proofs.Traces.{ImageFixed, image-fixed}
-use Rattle.battery.specs.Meaning.{image_of, state_of, ImageAfter, Makes}
+use Rattle.images.proofs.Determined.{DeterminesImage, image-fixed}
+use Rattle.battery.specs.Meaning.{image_of, state_of, LeavesImage, Makes}
 
-after-fixed : ImageFixed ImageAfter
+after-fixed : DeterminesImage LeavesImage
 after-fixed (reading b room) xs left ys zs s t = s ∙ sym t
 after-fixed (writing b bytes) xs left ys zs s t = s ∙ sym t
 after-fixed syncing xs left ys zs s t = s ∙ sym t
 after-fixed (restarting calls remains) xs left ys zs s t = s ∙ sym t
 
 pub fixed : LeavesNothingOpen state_of Makes
-fixed = image-fixed 257 4294967295 ImageAfter after-fixed state_of
+fixed = image-fixed 257 4294967295 LeavesImage after-fixed state_of
 
 pub reads : ReadsKeep image_of Makes
 reads b room d d' m = m.image

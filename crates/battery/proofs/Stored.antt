@@ -3,7 +3,7 @@ use Rattle.std.specs.Prelude.{◌≡◌, ℕ, ◌+◌, List, ◌∷◌, ◌++◌
 use Rattle.std.proofs.Common.{ap, ◌∙◌, arith}
 use borrow.Rule.Slice.PartMut.{put_mid}
 use Rattle.std.proofs.lemmas.List.{drop_all, append-nil}
-use Rattle.device.proofs.Splices.{store-is}
+use Rattle.images.proofs.Splices.{store-is}
 
 pub stored : (r bytes : List ℕ) → length r ≡ 257 → length bytes ≡ 256 → put_mid 1 256 (slice_set r 0 0) bytes ≡ 0 ∷ bytes
 stored r bytes full n =

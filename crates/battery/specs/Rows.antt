@@ -1,10 +1,10 @@
--- The image of a battery-backed device has 257 bytes a block: a byte, 0 if the block is readable, and the block's 256 bytes.
--- Nothing is ever loose. Assumes nothing.
+-- The rows of a battery-backed device's image: in each, byte 0 is 0 if the block is readable, and
+-- the block's bytes follow.
 use Rattle.std.specs.Prelude.{ℕ, Bool, false, List, ◌∷◌}
 
+-- no block is ever loose
 abbrev pub never_loose : List ℕ → Bool
 never_loose r = false
 
--- a row after a write
-abbrev pub written : List ℕ → List ℕ → List ℕ
-written r bytes = 0 ∷ bytes
+abbrev pub row_after_write : (r bytes : List ℕ) → List ℕ
+row_after_write r bytes = 0 ∷ bytes

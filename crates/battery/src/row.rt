@@ -1,22 +1,24 @@
-// One block's 257 bytes: a byte, 0 if the block is readable, and its 256 bytes.
+// The row of one block: 0 if the block is readable, and its bytes.
 ghost use Rattle.std.specs.Prelude.{◌∷◌};
-ghost use Rattle.device.specs.Images.{held};
-ghost use Rattle.battery.specs.Rows.{never_loose, written};
-ghost use Rattle.battery.specs.RowLaws.{fills, reads-back};
+ghost use Rattle.images.specs.Images.{held_bytes};
+ghost use Rattle.battery.specs.Rows.{never_loose, row_after_write};
+ghost use Rattle.battery.specs.RowLemmas.{full-after-write, reads-back};
 
-use device::{BLOCK_SIZE, RowFormat, held_bytes};
+use device::BLOCK_SIZE;
+use images::{RowFormat, held_bytes};
 
+// The number of bytes in a row.
 pub(crate) const ROW: usize = 257;
 
-// The layout of a row whose bytes are kept as soon as they are written.
-pub(crate) struct Kept;
+// The format of a row whose bytes are kept as soon as they are written.
+pub(crate) struct PlainRow;
 
-impl RowFormat<ROW> for Kept {
-    ghost shown = { held };
+impl RowFormat<ROW> for PlainRow {
+    ghost shown_bytes = { held_bytes };
 
     ghost is_loose = { never_loose };
 
-    ghost written = { written };
+    ghost row_after_write = { row_after_write };
 
     fn show(row: &[u8; ROW]) -> Option<&[u8; BLOCK_SIZE]> {
         held_bytes(row)
@@ -28,7 +30,7 @@ impl RowFormat<ROW> for Kept {
         row[1..].copy_from_slice(bytes);
     }
 
-    ghost fills = { fills };
+    ghost keeps_width = { full-after-write };
 
     ghost reads_back = { reads-back };
 }

@@ -2,8 +2,9 @@
 ghost use Rattle.std.specs.Prelude.{◌≡◌};
 
 use crate::row::ROW;
-use device::Imaged;
+use images::Imaged;
 
+/// A battery-backed device over an image, with a number of calls left.
 #[derive(Drop)]
 pub struct Battery {
     pub(crate) rows: Imaged<ROW>,
@@ -11,26 +12,28 @@ pub struct Battery {
 
 impl Battery {
     ghost use Rattle.device.specs.Traces.{LeavesNothingOpen, ReadsKeep};
-    ghost use Rattle.device.specs.Images.{blocks};
+    ghost use Rattle.images.specs.Images.{block_count};
+    ghost use Rattle.battery.specs.declared.row.TheConstants.{ROW};
     ghost use Rattle.battery.specs.Meaning.{image_of, state_of, meaning, Makes};
 
-    // A device over an image of any length and any bytes, with a number of calls. What is said of a call to
-    // such a device leaves nothing open of its image and the calls left.
-    pub fn new(image: Vec<u8>, calls: u32) -> Battery
+    /// A device over an image of any length and any bytes, with a number of calls. Bytes past the
+    /// last whole row, and rows past the 65,535th, are no block's and never change.
+    pub fn new(image: Vec<u8>, calls_left: u32) -> Battery
         ensures image { image_of result ≡ image.items }
+        ensures size { (meaning result).size ≡ block_count ROW image.items }
+        ensures calls_left { (meaning result).calls_left ≡ calls_left }
 
-        // as many blocks as the image has whole rows, at most 65,535, and so many calls
-        ensures size { (meaning result).size ≡ blocks 257 image.items }
-        ensures calls_left { (meaning result).calls_left ≡ calls }
+        // what `Makes` says of a call to such a device leaves nothing open of its image and the
+        // calls left
         ensures fixed { LeavesNothingOpen state_of Makes }
         ensures reads { ReadsKeep image_of Makes }
     {
         Battery {
-            rows: Imaged::new(image, calls),
+            rows: Imaged::new(image, calls_left),
         }
     }
 
-    // The image as the device left it.
+    /// The image as the device left it.
     pub fn into_image(self) -> Vec<u8>
         ensures { result.items ≡ image_of self }
     {

@@ -1,137 +1,147 @@
--- What a drill shows of any powered device: m is the device before it, and m' after it. Assumes nothing.
+-- What a drill shows of any powered device: m is the device before, and m' the device after. The
+-- block s is written and synced, and the block l is written after it and left loose; they may be
+-- one.
 use Rattle.std.specs.Prelude.{◌≡◌, ℕ, ◌-◌, true, false, List, [], ◌∷◌, length, replicate, Some, Ok, Err, Option, Result, ◌≢◌, slice_index}
 use Rattle.refusals.specs.declared.Fault.{Fault}
-use Rattle.refusals.specs.Numbers.{number_of}
-use Rattle.device.specs.Medium.{Medium}
 use Rattle.refusals.specs.Answers.{if_ok}
-use Rattle.device.specs.Calls.{Answer, admitted, write_answer, spend_answer, and_then, found, filled, read_answer, Elsewhere, SameBlocks}
+use Rattle.refusals.specs.Numbers.{number_of}
+use Rattle.device.specs.declared.TheConstants.{BLOCK_SIZE}
+use Rattle.device.specs.Medium.{Medium}
+use Rattle.device.specs.Calls.{Answer, admit_answer, write_answer, spend_answer, and_then, content_answer, buffer_after, read_answer, SameElsewhere, SameBlocks}
 use Rattle.device.specs.Traces.{DeviceCall, writing, syncing}
 use Rattle.check_drill.specs.declared.exercise.Ends.{Ends}
 
--- the answer to the first write and the sync: that of the first call that refuses
-abbrev pub keep_answer : Medium → ℕ → ℕ → Answer
-keep_answer m kept n = and_then (write_answer m kept n) (spend_answer (m.calls_left - 1))
+-- the answer to the first write, of n bytes, and the sync: that of the first call that refuses
+abbrev pub first_answer : (m : Medium) (s n : ℕ) → Answer
+first_answer m s n = and_then (write_answer m s n) (spend_answer (m.calls_left - 1))
 
 -- the answer to the second write, where those two were accepted
-abbrev pub loose_answer : Medium → ℕ → ℕ → Answer
-loose_answer m loose n = admitted m.size (m.calls_left - 2) loose n
+abbrev pub second_answer : (m : Medium) (l n : ℕ) → Answer
+second_answer m l n = admit_answer m.size (m.calls_left - 2) l n
 
 -- the answer to all three
-abbrev pub arm_answer : Medium → ℕ → ℕ → ℕ → Answer
-arm_answer m kept loose n = and_then (keep_answer m kept n) (loose_answer m loose n)
+abbrev pub writes_answer : (m : Medium) (s l n : ℕ) → Answer
+writes_answer m s l n = and_then (first_answer m s n) (second_answer m l n)
 
 -- the calls that are left then: each that is accepted spends one
-abbrev pub arm_left : Medium → ℕ → ℕ → ℕ → ℕ
-arm_left m kept loose n =
-    if_ok (write_answer m kept n)
+abbrev pub left_after_writes : (m : Medium) (s l n : ℕ) → ℕ
+left_after_writes m s l n =
+    if_ok (write_answer m s n)
     (if_ok (spend_answer (m.calls_left - 1))
-    (if_ok (loose_answer m loose n) (m.calls_left - 3) (m.calls_left - 2)) (m.calls_left - 1))
+    (if_ok (second_answer m l n) (m.calls_left - 3) (m.calls_left - 2)) (m.calls_left - 1))
     m.calls_left
 
--- the calls that are made: those three up to the first that refuses, and the rest where none does
-abbrev pub armed_calls : Medium → ℕ → ℕ → List ℕ → List DeviceCall → List DeviceCall
-armed_calls m kept loose bytes rest =
-    writing kept bytes
-    ∷ if_ok (write_answer m kept (length bytes))
+-- the calls that are made: those three up to the first that refuses, and `after_writes` where none
+-- does
+abbrev pub drill_calls : (m : Medium) (s l : ℕ) (bytes : List ℕ) (after_writes : List DeviceCall)
+    → List DeviceCall
+drill_calls m s l bytes after_writes =
+    writing s bytes
+    ∷ if_ok (write_answer m s (length bytes))
     (syncing
     ∷ if_ok (spend_answer (m.calls_left - 1))
-    (writing loose bytes ∷ if_ok (loose_answer m loose (length bytes)) rest []) [])
+    (writing l bytes ∷ if_ok (second_answer m l (length bytes)) after_writes []) [])
     []
 
--- The first write was refused with the fault e: nothing changed, except that a 13 may have changed its
--- own block.
-pub record FirstRefused (m m' : Medium) (kept : ℕ) (e : Fault) : Type 0 where
-  pub others : Elsewhere m m' kept
+-- The first write was refused with the fault e: nothing changed, but that after a 13 its own block
+-- may have.
+pub record FirstRefusalLeaves (m m' : Medium) (s : ℕ) (e : Fault) : Type 0 where
+  pub others : SameElsewhere m m' s
   pub same : (number_of e.refusal ≢ 13) → SameBlocks m m'
 
--- The first write was accepted and the sync refused: the block holds the bytes, and the others are as
--- they were, but that fewer of them may be loose.
-pub record SyncRefused (m m' : Medium) (kept : ℕ) (bytes : List ℕ) : Type 0 where
-  pub written : m'.holds kept ≡ Some bytes
-  pub others : (k : ℕ) → (k ≢ kept) → m'.holds k ≡ m.holds k
-  pub loose : (k : ℕ) → (k ≢ kept) → m'.loose k ≡ true → m.loose k ≡ true
+-- The first write was accepted and the sync refused: the block holds the bytes, and the others are
+-- as they were, but that fewer of them may be loose.
+pub record SyncRefusalLeaves (m m' : Medium) (s : ℕ) (bytes : List ℕ) : Type 0 where
+  pub here : m'.holds s ≡ Some bytes
+  pub others : (k : ℕ) → (k ≢ s) → m'.holds k ≡ m.holds k
+  pub loose : (k : ℕ) → (k ≢ s) → m'.loose k ≡ true → m.loose k ≡ true
 
--- The second write was refused with the fault e: the first block holds the bytes and none is loose,
--- except that a 13 may have left the second write's block loose, and holding anything.
-pub record SecondRefused (m m' : Medium) (kept loose : ℕ) (bytes : List ℕ) (e : Fault)
-    : Type 0 where
-  pub first : (kept ≢ loose) → m'.holds kept ≡ Some bytes
-  pub others : (k : ℕ) → (k ≢ kept) → (k ≢ loose) → m'.holds k ≡ m.holds k
-  pub firm : (k : ℕ) → (k ≢ loose) → m'.loose k ≡ false
-  pub held : (number_of e.refusal ≢ 13) → m'.holds loose ≡ m.holds loose
-  pub synced : (number_of e.refusal ≢ 13) → m'.loose loose ≡ false
+-- The second write was refused with the fault e: the first block holds the bytes and none is
+-- loose, but that after a 13 the second write's block may be loose, and may hold anything.
+pub record SecondRefusalLeaves (m m' : Medium) (s l : ℕ) (bytes : List ℕ) (e : Fault) : Type 0 where
+  pub first : (s ≢ l) → m'.holds s ≡ Some bytes
+  pub others : (k : ℕ) → (k ≢ s) → (k ≢ l) → m'.holds k ≡ m.holds k
+  pub firm : (k : ℕ) → (k ≢ l) → m'.loose k ≡ false
+  pub same : (number_of e.refusal ≢ 13) → m'.holds l ≡ m.holds l
+  pub second-firm : (number_of e.refusal ≢ 13) → m'.loose l ≡ false
 
 -- What a refusal leaves, by the call that was refused.
-pub record LeftBehind (m m' : Medium) (kept loose : ℕ) (bytes : List ℕ) : Type 0 where
-  pub first : (e : Fault) → write_answer m kept (length bytes) ≡ Err e → FirstRefused m m' kept e
+pub record RefusalLeaves (m m' : Medium) (s l : ℕ) (bytes : List ℕ) : Type 0 where
+  pub first : (e : Fault) → write_answer m s (length bytes) ≡ Err e → FirstRefusalLeaves m m' s e
   pub sync :
-      (e : Fault) → write_answer m kept (length bytes) ≡ Ok tt → spend_answer (m.calls_left - 1) ≡ Err e
-      → SyncRefused m m' kept bytes
+      (e : Fault) → write_answer m s (length bytes) ≡ Ok tt
+      → spend_answer (m.calls_left - 1) ≡ Err e → SyncRefusalLeaves m m' s bytes
   pub second :
-      (e : Fault) → keep_answer m kept (length bytes) ≡ Ok tt
-      → loose_answer m loose (length bytes) ≡ Err e → SecondRefused m m' kept loose bytes e
+      (e : Fault) → first_answer m s (length bytes) ≡ Ok tt
+      → second_answer m l (length bytes) ≡ Err e → SecondRefusalLeaves m m' s l bytes e
 
 -- All three were accepted: both blocks hold the bytes, and none but the second may be loose.
-pub record BothWritten (m m' : Medium) (kept loose : ℕ) (bytes : List ℕ) : Type 0 where
-  pub first : m'.holds kept ≡ Some bytes
-  pub second : m'.holds loose ≡ Some bytes
-  pub others : (k : ℕ) → (k ≢ kept) → (k ≢ loose) → m'.holds k ≡ m.holds k
-  pub firm : (k : ℕ) → (k ≢ loose) → m'.loose k ≡ false
+pub record HasBothBlocks (m m' : Medium) (s l : ℕ) (bytes : List ℕ) : Type 0 where
+  pub first : m'.holds s ≡ Some bytes
+  pub second : m'.holds l ≡ Some bytes
+  pub others : (k : ℕ) → (k ≢ s) → (k ≢ l) → m'.holds k ≡ m.holds k
+  pub firm : (k : ℕ) → (k ≢ l) → m'.loose k ≡ false
 
--- The two writes and the sync between them were asked for.
-pub record Armed (m m' : Medium) (kept loose : ℕ) (bytes : List ℕ) (r : Answer) : Type 0 where
-  pub answer : r ≡ arm_answer m kept loose (length bytes)
-  pub calls_left : m'.calls_left ≡ arm_left m kept loose (length bytes)
+-- The two writes and the sync between them answer r.
+pub record WritesBlocks (m m' : Medium) (s l : ℕ) (bytes : List ℕ) (r : Answer) : Type 0 where
+  pub answer : r ≡ writes_answer m s l (length bytes)
+  pub calls_left : m'.calls_left ≡ left_after_writes m s l (length bytes)
   pub size : m'.size ≡ m.size
-  pub refused : LeftBehind m m' kept loose bytes
-  pub both : arm_answer m kept loose (length bytes) ≡ Ok tt → BothWritten m m' kept loose bytes
+  pub refusal : RefusalLeaves m m' s l bytes
+  pub both : writes_answer m s l (length bytes) ≡ Ok tt → HasBothBlocks m m' s l bytes
 
--- The power was cut, and a block read with the calls that the restart gave. What the read answers and
--- leaves in the buffer goes by what the block holds in the end, since a read changes no block.
-pub record ReadBack (m m' : Medium) (b given : ℕ) (old new : List ℕ) (r : Answer) : Type 0 where
-  pub answer : r ≡ and_then (admitted m.size given b (length old)) (found b (m'.holds b))
-  pub buffer : new ≡ if_ok r (filled (m'.holds b) old) old
-  pub calls_left : m'.calls_left ≡ if_ok (admitted m.size given b (length old)) (given - 1) given
+-- The power is cut, and block b read with `given` calls, which makes the buffer `old` to `new`.
+-- What the read answers and leaves in the buffer goes by what the block holds in the end, since a
+-- read changes no block.
+pub record CutsAndReads (m m' : Medium) (b given : ℕ) (old new : List ℕ) (r : Answer) : Type 0 where
+  pub answer :
+      r ≡ and_then (admit_answer m.size given b (length old)) (content_answer b (m'.holds b))
+  pub buffer : new ≡ if_ok r (buffer_after (m'.holds b) old) old
+  pub calls_left :
+      m'.calls_left ≡ if_ok (admit_answer m.size given b (length old)) (given - 1) given
   pub size : m'.size ≡ m.size
   pub holds : (k : ℕ) → m.loose k ≡ false → m'.holds k ≡ m.holds k
   pub firm : (k : ℕ) → m'.loose k ≡ false
 
--- All three were accepted, and then the power was cut: what was synced is there, whatever the remains
--- were, and no block is loose. What the second write left is for the kind to say, also where it was
--- made to the first block.
-pub record Outlasted (m m' : Medium) (kept loose : ℕ) (bytes : List ℕ) : Type 0 where
-  pub first : (kept ≢ loose) → m'.holds kept ≡ Some bytes
-  pub others : (k : ℕ) → (k ≢ kept) → (k ≢ loose) → m'.holds k ≡ m.holds k
+-- All three were accepted, and then the power was cut: what was synced is there, whatever the
+-- remains were, and no block is loose. What the second write left is for the kind to say, also
+-- where it was made to the first block.
+pub record SurvivesCut (m m' : Medium) (s l : ℕ) (bytes : List ℕ) : Type 0 where
+  pub first : (s ≢ l) → m'.holds s ≡ Some bytes
+  pub others : (k : ℕ) → (k ≢ s) → (k ≢ l) → m'.holds k ≡ m.holds k
   pub firm : (k : ℕ) → m'.loose k ≡ false
 
--- The answer to a drill after which the first block holds that: the same three calls, a restart that
--- gives a number of calls, and a read.
-abbrev pub drill_answer : Medium → ℕ → ℕ → ℕ → ℕ → ℕ → Option (List ℕ) → Answer
-drill_answer m kept loose n calls room held =
-    and_then (arm_answer m kept loose n)
-    (and_then (admitted m.size calls kept room) (found kept held))
+-- The answer to a drill of n bytes after which the first block holds `content`: the same three
+-- calls, a restart that gives `given` calls, and a read into a buffer of `room` bytes.
+abbrev pub drill_answer : (m : Medium) (s l n given room : ℕ) (content : Option (List ℕ)) → Answer
+drill_answer m s l n given room content =
+    and_then (writes_answer m s l n)
+    (and_then (admit_answer m.size given s room) (content_answer s content))
 
 -- the calls that are left then
-abbrev pub drill_left : Medium → ℕ → ℕ → ℕ → ℕ → ℕ → ℕ
-drill_left m kept loose n calls room =
-    if_ok (arm_answer m kept loose n) (if_ok (admitted m.size calls kept room) (calls - 1) calls)
-    (arm_left m kept loose n)
+abbrev pub drill_left : (m : Medium) (s l n given room : ℕ) → ℕ
+drill_left m s l n given room =
+    if_ok (writes_answer m s l n) (if_ok (admit_answer m.size given s room) (given - 1) given)
+    (left_after_writes m s l n)
 
--- What a drill answers and leaves, also where both blocks are the same.
-pub record Drilled (m m' : Medium) (kept loose : ℕ) (bytes : List ℕ) (given : ℕ) (old new : List ℕ)
+-- What a drill answers and leaves.
+pub record Drills (m m' : Medium) (s l : ℕ) (bytes : List ℕ) (given : ℕ) (old new : List ℕ)
     (r : Answer) : Type 0 where
-  pub answer : r ≡ drill_answer m kept loose (length bytes) given (length old) (m'.holds kept)
+  pub answer : r ≡ drill_answer m s l (length bytes) given (length old) (m'.holds s)
   -- a refusal leaves the buffer
-  pub buffer : new ≡ if_ok r (filled (m'.holds kept) old) old
-  pub calls_left : m'.calls_left ≡ drill_left m kept loose (length bytes) given (length old)
+  pub buffer : new ≡ if_ok r (buffer_after (m'.holds s) old) old
+  pub calls_left : m'.calls_left ≡ drill_left m s l (length bytes) given (length old)
   pub size : m'.size ≡ m.size
-  pub refused : LeftBehind m m' kept loose bytes
-  pub outlasted : arm_answer m kept loose (length bytes) ≡ Ok tt → Outlasted m m' kept loose bytes
+  pub refusal : RefusalLeaves m m' s l bytes
+  pub survives : writes_answer m s l (length bytes) ≡ Ok tt → SurvivesCut m m' s l bytes
 
 -- the first and the last byte of what a read gave
-abbrev pub ends : Answer → List ℕ → Result Ends Fault
-ends (Ok x) bytes = Ok (record { first = slice_index bytes 0; last = slice_index bytes 255 })
-ends (Err e) bytes = Err e
+abbrev pub ends_of : Answer → (bytes : List ℕ) → Result Ends Fault
+ends_of (Ok x) bytes =
+    Ok (record { first = slice_index bytes 0; last = slice_index bytes (BLOCK_SIZE - 1) })
+ends_of (Err e) bytes = Err e
 
-abbrev pub looked : Medium → ℕ → Result Ends Fault
-looked m b = ends (read_answer m b 256) (filled (m.holds b) (replicate 256 0))
+-- the answer to a look at block b, whose buffer holds zeros before it
+abbrev pub look_answer : (m : Medium) (b : ℕ) → Result Ends Fault
+look_answer m b =
+    ends_of (read_answer m b BLOCK_SIZE) (buffer_after (m.holds b) (replicate BLOCK_SIZE 0))

@@ -1,13 +1,16 @@
--- Images that are made for a drill. Assumes nothing.
+-- The bytes of the images that the program makes devices from.
 use Rattle.std.specs.Prelude.{ℕ, List, ◌∷◌, ◌++◌, replicate}
+use Rattle.device.specs.declared.TheConstants.{BLOCK_SIZE}
 use Rattle.check_drill.specs.declared.pictures.Row.{Row}
 
--- the 257 bytes of a half row
-abbrev pub half : ℕ → ℕ → List ℕ
-half flag byte = flag ∷ replicate 256 byte
+-- a flag and a block's bytes, all alike
+abbrev pub half : (flag byte : ℕ) → List ℕ
+half flag byte = flag ∷ replicate BLOCK_SIZE byte
 
-abbrev pub whole_row : Row → List ℕ
-whole_row r = half r.flag r.kept ++ half r.loose r.newer
+-- a row in the image of a simulated device
+abbrev pub simulated_row : Row → List ℕ
+simulated_row r = half r.flag r.kept ++ half r.loose r.newer
 
-abbrev pub kept_row : Row → List ℕ
-kept_row r = half r.flag r.kept
+-- a row in the image of a battery-backed device
+abbrev pub battery_row : Row → List ℕ
+battery_row r = half r.flag r.kept

@@ -1,34 +1,38 @@
-// Cuts the power of both kinds of device, and prints what their blocks hold then.
+//! A program that cuts the power of both kinds of device and prints what their blocks hold then.
+//!
+//! What it must print is in `stdout`, beside this crate. `exercise::drill` is proved for any
+//! powered device (the clause `drills`); that the program prints what the calls answer is tested
+//! only.
 #![tactic(auto)]
 
 mod exercise;
 mod pictures;
 
 use battery::Battery;
-use device::{Device, PoweredDevice};
-use exercise::{Cut, Ends, Writes, drill, look};
-use pictures::{Kind, ROWS, TAIL, image_with};
+use device::{BLOCK_SIZE, Device, PoweredDevice};
+use exercise::{CutPoint, DrillWrites, Ends, drill, look};
+use pictures::{DeviceKind, ROWS, TAIL, image_with};
 use refusals::Fault;
 use simulated::Simulated;
 use std::io;
 
 // The cuts that each kind of device is put to.
-static CUTS: [Cut<'static>; 3] = [
-    Cut {
-        calls: 0,
+static CUTS: [CutPoint<'static>; 3] = [
+    CutPoint {
+        calls_left: 0,
         remains: &[1, 0, 2],
     },
-    Cut {
-        calls: 1,
+    CutPoint {
+        calls_left: 1,
         remains: &[3, 3, 200, 4, 1, 0, 9, 9],
     },
-    Cut {
-        calls: u32::MAX,
+    CutPoint {
+        calls_left: u32::MAX,
         remains: &[],
     },
 ];
 
-fn tell_answer(rt: &HostRuntime, answer: Result<(), Fault>) -> io::Result<()> {
+fn print_answer(rt: &HostRuntime, answer: Result<(), Fault>) -> io::Result<()> {
     match answer {
         Ok(()) => println!(rt; " drilled, then all blocks"),
         Err(fault) => {
@@ -38,7 +42,7 @@ fn tell_answer(rt: &HostRuntime, answer: Result<(), Fault>) -> io::Result<()> {
     }
 }
 
-fn tell_block<D: Device>(rt: &HostRuntime, device: &mut D, block: u32) -> io::Result<()> {
+fn print_block<D: Device>(rt: &HostRuntime, device: &mut D, block: u32) -> io::Result<()> {
     match look(device, block) {
         Ok(Ends { first, last }) => println!(rt; "  block {block}: {first} to {last}"),
         Err(fault) => {
@@ -48,66 +52,67 @@ fn tell_block<D: Device>(rt: &HostRuntime, device: &mut D, block: u32) -> io::Re
     }
 }
 
-fn tell_all<D: Device>(rt: &HostRuntime, device: &mut D) -> io::Result<()> {
+fn print_all<D: Device>(rt: &HostRuntime, device: &mut D) -> io::Result<()> {
     for block in 0..device.size() {
-        tell_block(rt, device, block)?;
+        print_block(rt, device, block)?;
     }
     Ok(())
 }
 
-// Cuts the power at once, with a number of calls for what follows, and then drills blocks 0 and 1. Each time the blocks
-// are told after one more restart, which loses nothing, since no block is loose then.
+// Cuts the power at once, with a number of calls for what follows, and then drills blocks 0 and 1.
+// Each time all blocks are printed after one more restart, which loses nothing, since no block is
+// loose then.
 fn cut_and_drill<P: PoweredDevice>(
     rt: &HostRuntime,
     device: &mut P,
-    cut: &Cut<'_>,
+    cut: &CutPoint<'_>,
 ) -> io::Result<()> {
-    device.restart(cut.calls, cut.remains);
+    device.restart(cut.calls_left, cut.remains);
     println!(rt; " cut, then block 0 twice")?;
-    tell_block(rt, device, 0)?;
-    tell_block(rt, device, 0)?;
+    print_block(rt, device, 0)?;
+    print_block(rt, device, 0)?;
     device.restart(u32::MAX, &[]);
     println!(rt; " all blocks")?;
-    tell_all(rt, device)?;
-    let mut back = [0u8; 256];
-    let writes = Writes {
-        kept: 0,
-        loose: 1,
-        bytes: &[77; 256],
+    print_all(rt, device)?;
+    let mut back = [0u8; BLOCK_SIZE];
+    let writes = DrillWrites {
+        synced_block: 0,
+        loose_block: 1,
+        bytes: &[77; BLOCK_SIZE],
     };
     let answer = drill(device, &writes, cut, &mut back);
-    tell_answer(rt, answer)?;
+    print_answer(rt, answer)?;
     device.restart(u32::MAX, &[]);
-    tell_all(rt, device)
+    print_all(rt, device)
 }
 
 // The image as the device left it: its length, and the last of its bytes, which no block has.
-fn tell_image(rt: &HostRuntime, image: &Vec<u8>) -> io::Result<()> {
+fn print_image(rt: &HostRuntime, image: &Vec<u8>) -> io::Result<()> {
     let length = image.len();
     let last = image.as_slice().last().copied().unwrap_or(0);
     println!(rt; " image of {length} bytes, the last {last}")
 }
 
-fn tell_cut<K: Kind>(rt: &HostRuntime, cut: &Cut<'_>) -> io::Result<()> {
+fn try_cut<K: DeviceKind>(rt: &HostRuntime, cut: &CutPoint<'_>) -> io::Result<()> {
     let name = K::NAME;
-    let calls = cut.calls;
+    let calls = cut.calls_left;
     let given = cut.remains.len();
     println!(rt; "{name}, {calls} calls, {given} bytes of remains")?;
     let mut image = image_with::<K>(rt.alloc(), &ROWS)?;
     image.extend_from_slice(&TAIL)?;
     let mut device = K::of_image(image);
     cut_and_drill(rt, &mut device, cut)?;
-    tell_image(rt, &device.back_to_image())
+    print_image(rt, &device.back_to_image())
 }
 
-fn tell_cuts<K: Kind>(rt: &HostRuntime) -> io::Result<()> {
+fn try_cuts<K: DeviceKind>(rt: &HostRuntime) -> io::Result<()> {
     for cut in &CUTS {
-        tell_cut::<K>(rt, cut)?;
+        try_cut::<K>(rt, cut)?;
     }
     Ok(())
 }
 
 fn main(rt: HostRuntime) -> io::Result<()> {
-    tell_cuts::<Simulated>(&rt)?;
-    tell_cuts::<Battery>(&rt)
+    try_cuts::<Simulated>(&rt)?;
+    try_cuts::<Battery>(&rt)
 }

@@ -1,24 +1,28 @@
 // Images to make devices from.
 ghost use Rattle.std.specs.Prelude.{◌≡◌, ℕ, true, List, ◌++◌, is_ok, IfOk};
 ghost use Rattle.std.specs.List.{flat_map};
-ghost use Rattle.check_drill.specs.Pictures.{half, whole_row, kept_row};
+ghost use Rattle.check_drill.specs.Pictures.{half, simulated_row, battery_row};
 
 use battery::Battery;
-use device::PoweredDevice;
+use device::{BLOCK_SIZE, PoweredDevice};
 use simulated::Simulated;
 use std::alloc::{AllocError, Global};
 
-// A block of an image: its kept bytes are all alike, and so are its newer ones, which only a simulated device has.
-// Flags are bytes here, as an image has them.
+/// A block in an image. Its kept bytes are all alike, and so are its newer ones, which only a
+/// simulated device has.
 #[derive(Clone, Copy)]
 pub struct Row {
+    /// 0 if the block is readable.
     pub flag: u8,
+    /// Each kept byte.
     pub kept: u8,
+    /// 0 if the block is not loose.
     pub loose: u8,
+    /// Each newer byte.
     pub newer: u8,
 }
 
-// The blocks at the start: two that are not loose, and six that are, in a simulated device.
+/// The blocks at the start: two that are not loose, and six that are in a simulated device.
 pub static ROWS: [Row; 8] = [
     Row {
         flag: 0,
@@ -70,22 +74,24 @@ pub static ROWS: [Row; 8] = [
     },
 ];
 
-// Bytes past the last whole block.
+/// Bytes past the last whole row.
 pub static TAIL: [u8; 3] = [7, 8, 9];
 
-// Adds a flag and 256 bytes that are all alike.
+// Adds a flag and a block's bytes, all alike.
 fn add_half(image: &mut Vec<u8>, flag: u8, byte: u8) -> Result<(), AllocError>
     ensures { is_ok result ≡ true → image.new.items ≡ image.old.items ++ half flag byte }
 {
     image.push(flag)?;
-    image.extend_from_slice(&[byte; 256])
+    image.extend_from_slice(&[byte; BLOCK_SIZE])
 }
 
-// A kind of device: what it is called, what of a row its image holds, and how it comes from an image and gives it back.
-pub(crate) trait Kind: PoweredDevice + Drop {
+// A kind of device: its name, what of a row its image holds, and how it is made of an image and
+// gives it back.
+pub(crate) trait DeviceKind: PoweredDevice + Drop {
     ghost use Rattle.check_drill.specs.declared.pictures.Row.{Row};
 
-    ghost pictured: { Row → List ℕ };
+    // the bytes of a row in an image of this kind
+    ghost image_row: { Row → List ℕ };
 
     // the bytes of the image that a device is made from
     ghost image_of: { Self → List ℕ };
@@ -94,7 +100,7 @@ pub(crate) trait Kind: PoweredDevice + Drop {
 
     // Adds to an image what it holds of a row.
     fn add_row(image: &mut Vec<u8>, row: Row) -> Result<(), AllocError>
-        ensures { is_ok result ≡ true → image.new.items ≡ image.old.items ++ pictured row };
+        ensures { is_ok result ≡ true → image.new.items ≡ image.old.items ++ image_row row };
 
     // A device over the image, with no calls.
     fn of_image(image: Vec<u8>) -> Self
@@ -105,10 +111,10 @@ pub(crate) trait Kind: PoweredDevice + Drop {
         ensures { result.items ≡ image_of self };
 }
 
-impl Kind for Simulated {
+impl DeviceKind for Simulated {
     ghost use Rattle.simulated.specs.Meaning.{image_of};
 
-    ghost pictured = { whole_row };
+    ghost image_row = { simulated_row };
 
     ghost image_of = { image_of };
 
@@ -128,10 +134,10 @@ impl Kind for Simulated {
     }
 }
 
-impl Kind for Battery {
+impl DeviceKind for Battery {
     ghost use Rattle.battery.specs.Meaning.{image_of};
 
-    ghost pictured = { kept_row };
+    ghost image_row = { battery_row };
 
     ghost image_of = { image_of };
 
@@ -151,8 +157,8 @@ impl Kind for Battery {
 }
 
 // The image of a device of this kind with these blocks.
-pub(crate) fn image_with<K: Kind>(heap: Global, rows: &[Row]) -> Result<Vec<u8>, AllocError>
-    ensures { IfOk result (λ v. v.items ≡ flat_map K.pictured rows.now) }
+pub(crate) fn image_with<K: DeviceKind>(heap: Global, rows: &[Row]) -> Result<Vec<u8>, AllocError>
+    ensures { IfOk result (λ v. v.items ≡ flat_map K.image_row rows.now) }
 {
     let mut image = Vec::new(heap);
     for row in rows {

@@ -40,7 +40,7 @@ pub credit-past-ceiling : (a b i : ℕ) → a < 64 → b < 64 → i < 16
     → answer_number (ruling balances_kind (apply nothing (crediting a i 1000000000000)) (crediting b i 1)) ≡ 24
 credit-past-ceiling a b i la lb li = rw (lt-leb 64 b lb, lt-leb 16 i li, filled a i la)
 
--- the first credit is done
+-- the first credit is carried out
 pub filled-once : outcome balances_kind nothing (crediting 0 0 1000000000000) ≡ apply nothing
     (crediting 0 0 1000000000000)
 filled-once = let z = nothing-in-all 0 in rw z

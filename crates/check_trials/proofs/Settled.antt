@@ -41,11 +41,11 @@ answers-by-hand = record {
   accepted = refl;
 }
 
--- where an instruction leads from a standing that is known
+-- where an instruction leads from a known standing
 pub led : {h : Rulebook} {s t u : Standing} {x y : Instruction} → FollowsRules h s t x → s ≡ u → x ≡ y → t ≡ step h u y
 led {h} {s} {t} {u} {x} {y} g e f = g.after ∙ ap (λ s. step h s x) e ∙ ap (λ x. step h u x) f
 
--- what a question answers after the settlement
+-- what a question is answered after the settlement
 pub answered : (d : Side) (a i : ℕ) (s : Standing) {r : Result Holding Refusal} → s ≡ standing_after trade_7
     → r ≡ Ok (holding_of (s.book d) a i) → r ≡ Ok (holding_of ((standing_after trade_7).book d) a i)
 answered d a i s e f = f ∙ ap (λ (s : Standing). Ok (holding_of (s.book d) a i)) e

@@ -5,7 +5,7 @@ use Rattle.refusals.specs.declared.Refusal.TheVariants.{NoCalls}
 use Rattle.refusals.specs.declared.Fault.{Fault}
 use Rattle.refusals.specs.Faults.{plain, at_block}
 use Rattle.device.specs.Medium.{Medium}
-use Rattle.device.specs.Calls.{Answer, admitted, and_then, Write, Sync}
+use Rattle.device.specs.Calls.{Answer, admit_answer, and_then, Write, Sync}
 
 -- a call on block b with n bytes that passed the checks
 pub record Passed (size left b n : ℕ) : Type 0 where
@@ -13,15 +13,15 @@ pub record Passed (size left b n : ℕ) : Type 0 where
   pub whole : n ≡ 256
   pub calls : 0 < left
 
-pub passed : (size left b n : ℕ) → admitted size left b n ≡ Ok tt → Passed size left b n
+pub passed : (size left b n : ℕ) → admit_answer size left b n ≡ Ok tt → Passed size left b n
 passed size left b n e = record { in-range = grind arith; whole = grind arith; calls = grind arith }
 
 -- the same checks, of a number of blocks that is said otherwise
-pub admitted-as : (size size' left b n : ℕ) → size ≡ size' → Ok tt ≡ admitted size left b n → admitted size' left b n ≡ Ok tt
-admitted-as size size' left b n e ok = ap (λ (k : ℕ). admitted k left b n) (sym e) ∙ sym ok
+pub admit_answer-as : (size size' left b n : ℕ) → size ≡ size' → Ok tt ≡ admit_answer size left b n → admit_answer size' left b n ≡ Ok tt
+admit_answer-as size size' left b n e ok = ap (λ (k : ℕ). admit_answer k left b n) (sym e) ∙ sym ok
 
 -- one that did not, though its block and its bytes are right
-pub refused : (size left b n : ℕ) (e : Fault) → Err e ≡ admitted size left b n → b < size → n ≡ 256 → (e ≡ at_block NoCalls b) × (left ≡ 0)
+pub refused : (size left b n : ℕ) (e : Fault) → Err e ≡ admit_answer size left b n → b < size → n ≡ 256 → (e ≡ at_block NoCalls b) × (left ≡ 0)
 refused size left b n e h l w =
     let p = cond-false _ _ _ (lt-leb size b l) ∙ cond-true _ _ _ (eq-eqb n 256 w) in
     elim (cases_Bool (eqb left 0)) [

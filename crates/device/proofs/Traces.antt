@@ -6,7 +6,7 @@ use Rattle.std.proofs.lemmas.Fn.{FoldsTo-push}
 use Rattle.std.proofs.lemmas.List.{take-append-le, take_all}
 use Rattle.std.proofs.Math.Seq.{take-append-add}
 use Rattle.std.proofs.lemmas.List.Folds.{list_all-append}
-use Rattle.device.specs.Traces.{DeviceCall, reading, writing, syncing, restarting, IsTrace, is_reading, only_reads, ReadOnly, LeavesNothingOpen, ReadsKeep, ImageMade}
+use Rattle.device.specs.Traces.{DeviceCall, reading, writing, syncing, restarting, IsTrace, is_reading, only_reads, ReadOnly, LeavesNothingOpen, ReadsKeep}
 
 module _ {D : Type 0} (makes : D → DeviceCall → D → Type 0) where
   pub traced-one : (call : DeviceCall) (d e : D) → makes d call e → IsTrace makes (call ∷ []) d e
@@ -67,20 +67,3 @@ module _ {D : Type 0} (makes : D → DeviceCall → D → Type 0) where
 
   pub read-on : {d e f : D} → ReadOnly makes d e → ReadOnly makes e f → ReadOnly makes d f
   read-on {d} {e} {f} s t = (s.0 ++ t.0, only_reads-append s.0 t.0 s.1 t.1, traced-append makes s.0 t.0 d e f s.2 t.2)
-
--- what After says of the image fixes it
-abbrev pub ImageFixed : (List ℕ → ℕ → DeviceCall → List ℕ → Type 0) → Type 0
-ImageFixed After = (call : DeviceCall) (xs : List ℕ) (left : ℕ) (ys zs : List ℕ) → After xs left call ys → After xs left call zs → ys ≡ zs
-
-module _ (w most : ℕ) (After : List ℕ → ℕ → DeviceCall → List ℕ → Type 0) (fixed : ImageFixed After) where
-  -- the image and the calls left after a call
-  image-made : (call : DeviceCall) (s t s' t' : List ℕ × ℕ) → ImageMade w most After s call s' → ImageMade w most After t call t' → s ≡ t → s' ≡ t'
-  image-made call s t s' t' one two same =
-      let also : ImageMade w most After s call t' = subst (λ (u : List ℕ × ℕ). ImageMade w most After u call t') (sym same) two in
-      let image : s'.0 ≡ t'.0 = fixed call s.0 s.1 s'.0 t'.0 one.image also.image in
-      let left : s'.1 ≡ t'.1 = one.calls_left ∙ sym also.calls_left in
-      let pair : List ℕ → ℕ → List ℕ × ℕ = λ xs n. (xs, n) in
-      ap (λ (xs : List ℕ). pair xs s'.1) image ∙ ap (pair t'.0) left
-
-  pub image-fixed : {D : Type 0} (seen : D → List ℕ × ℕ) → LeavesNothingOpen seen (λ d call d'. ImageMade w most After (seen d) call (seen d'))
-  image-fixed seen call d e d' e' one two same = image-made call (seen d) (seen e) (seen d') (seen e') one two same

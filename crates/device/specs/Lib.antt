@@ -1,6 +1,5 @@
+pub mod Bytes
 pub mod Medium
 pub mod Calls
 pub mod Power
-pub mod Bytes
-pub mod Images
 pub mod Traces

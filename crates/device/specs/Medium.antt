@@ -1,20 +1,23 @@
--- What a device means. Assumes nothing.
-use Rattle.std.specs.Prelude.{◌≡◌, ℕ, ◌^◌, ◌<◌, ◌≤◌, Bool, false, List, length, Some, None, Option, slice_index}
+-- What a device means, and the limits that every device keeps.
+use Rattle.std.specs.Prelude.{◌≡◌, ℕ, ◌^◌, ◌<◌, ◌≤◌, Bool, false, List, length, Some, None, Option}
+use Rattle.device.specs.declared.TheConstants.{BLOCK_SIZE, MOST_BLOCKS}
+use Rattle.device.specs.Bytes.{AreBytes}
 
--- A number of blocks; what each holds, None where it is unreadable; whether each is loose, which is to say
--- written and not yet synced; and how many calls are left.
 pub record Medium : Type 0 where
+  -- how many blocks there are
   pub size : ℕ
+  -- the bytes that a block holds, or None where it is unreadable
   pub holds : ℕ → Option (List ℕ)
+  -- whether a block was written and not yet synced
   pub loose : ℕ → Bool
   pub calls_left : ℕ
 
--- What every device keeps to: at most 65,535 blocks and 4,294,967,295 calls, 256 bytes to a readable block, and nothing
--- past the last block.
 pub record IsBounded (m : Medium) : Type 0 where
-  pub few : m.size ≤ 65535
+  pub few : m.size ≤ MOST_BLOCKS
   pub calls : m.calls_left < 2 ^ 32
-  pub whole : (b : ℕ) (x : List ℕ) → m.holds b ≡ Some x → length x ≡ 256
-  pub bytes : (b : ℕ) (x : List ℕ) → m.holds b ≡ Some x → (k : ℕ) → slice_index x k < 256
+  -- a readable block holds a block's bytes
+  pub whole : (b : ℕ) (x : List ℕ) → m.holds b ≡ Some x → length x ≡ BLOCK_SIZE
+  pub bytes : (b : ℕ) (x : List ℕ) → m.holds b ≡ Some x → AreBytes x
+  -- past the last block nothing is held and nothing is loose
   pub none-held : (b : ℕ) → m.size ≤ b → m.holds b ≡ None
   pub none-loose : (b : ℕ) → m.size ≤ b → m.loose b ≡ false

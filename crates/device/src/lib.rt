@@ -1,5 +1,13 @@
-// A block device as an interface: what its calls answer and change is a contract, so that code over any device is
-// proved once. docs/DEVICES.md says it in words.
+//! A block device as an interface.
+//!
+//! [`Device`] says what a read, a write, a sync and the question for the size answer and change,
+//! and [`PoweredDevice`] what a restart leaves. Each promise is a contract of the trait (`Read`,
+//! `Write`, `Sync` and `Restart` in `specs/`), so code over any device is proved once. What only
+//! one kind of device does is said by that kind, in `makes`.
+//!
+//! A device over another device needs this crate and no other: it states its own `medium` in terms
+//! of the other's, and [`admit`] makes the checks that a read and a write share. docs/DEVICES.md
+//! says all this in words.
 #![tactic(auto)]
 
 ghost use Rattle.std.specs.Prelude.{◌≡◌, ℕ, ◌^◌, ◌<◌, min, false, length};
@@ -7,54 +15,88 @@ ghost use Rattle.device.specs.Medium.{Medium, IsBounded};
 ghost use Rattle.device.specs.Calls.{Read, Write, Sync};
 ghost use Rattle.device.specs.Traces.{DeviceCall, reading, writing, syncing, restarting};
 
-mod imaged;
-mod images;
+mod admission;
 
-pub use imaged::{Imaged, RowFormat, held_bytes};
-pub use images::{admit, whole_blocks};
+pub use admission::admit;
 use refusals::Fault;
 
-// How many bytes a block has.
+/// The number of bytes in a block.
 pub const BLOCK_SIZE: usize = 256;
 
-// As many blocks as a device may have.
+/// The largest number of blocks that a device may have.
 pub const MOST_BLOCKS: usize = 65535;
 
-// Blocks of 256 bytes that are read, written and synced, one call at a time, while calls are left.
+/// The largest number of calls that a device may have left, and so the largest that a restart can
+/// be asked for.
+pub const MOST_CALLS: u32 = 4294967295;
+
+/// A fixed number of blocks, which are read, written and synced one call at a time while calls are
+/// left.
+///
+/// A block holds [`BLOCK_SIZE`] bytes or is unreadable. It is loose if it was written and not yet
+/// synced. A call that is accepted spends one of the calls left, and so does a read that finds its
+/// block unreadable; no other refusal does.
 pub trait Device {
+    /// What a device means: its number of blocks, what each holds, whether each is loose, and the
+    /// calls left.
     ghost medium: { Self → Medium };
 
-    // What the kind says exactly of a call: a device, the call, and the device after it. What every device promises leaves
-    // open whether a written block is loose and what some refusals leave, and a kind may say that here.
+    /// What the kind says exactly of a call: the device, the call, and the device after it. The
+    /// clauses below leave open whether a written block is loose and what some refusals leave, and
+    /// a kind may say that here.
     ghost makes: { Self → DeviceCall → Self → Type 0 };
 
+    /// The number of blocks, 0 to [`MOST_BLOCKS`]. It never changes, and asking for it spends no
+    /// call.
     fn size(&self) -> u32
         ensures { result ≡ (medium self.now).size };
 
+    /// Fills the buffer with what a block holds. A refusal leaves the buffer as it was.
+    ///
+    /// # Errors
+    ///
+    /// In this order: 11 if there is no such block, 12 if the buffer has another length than
+    /// [`BLOCK_SIZE`], 13 if no calls are left, 14 if the block is unreadable. Each names the
+    /// block.
     fn read(&mut self, block: u32, buffer: &mut [u8]) -> Result<(), Fault>
         ensures call { Read (medium self.old) (medium self.new) block buffer.old buffer.new result }
         ensures kind { makes self.old (reading block (length buffer.old)) self.new };
 
+    /// Makes a block hold the bytes. That block alone may become loose.
+    ///
+    /// # Errors
+    ///
+    /// In this order: 11 if there is no such block, 12 if there are not [`BLOCK_SIZE`] bytes, 13
+    /// if no calls are left. Each names the block. After a 13 the block may hold anything or be
+    /// unreadable, and may be loose.
     fn write(&mut self, block: u32, bytes: &[u8]) -> Result<(), Fault>
         ensures call { Write (medium self.old) (medium self.new) block bytes.now result }
         ensures kind { makes self.old (writing block bytes.now) self.new };
 
+    /// Leaves no block loose, and what each block holds as it was.
+    ///
+    /// # Errors
+    ///
+    /// 13 if no calls are left, which names no block. Some blocks may be loose no longer then.
     fn sync(&mut self) -> Result<(), Fault>
         ensures call { Sync (medium self.old) (medium self.new) result }
         ensures kind { makes self.old syncing self.new };
 
+    /// Every device keeps the limits above, and past its last block nothing is held or loose.
     ghost bounds: { (d : Self) → IsBounded (medium d) };
 }
 
-// A device that can lose its power and be restarted. Its kind fixes the largest number of calls that a
-// restart gives.
+/// A device that can lose its power and be restarted.
 pub trait PoweredDevice: Device {
+    /// The largest number of calls that a restart of this kind of device gives.
     ghost most_calls: { ℕ };
 
-    // Restarts the device, and never refuses. The bytes of `remains` matter to loose blocks alone: what
-    // a loose block holds afterwards is for the kind to say, by `makes`, and may be its old bytes, its
-    // new ones, any other bytes, or nothing that can be read.
-    fn restart(&mut self, calls: u32, remains: &[u8])
+    /// Restarts the device after a loss of power. It never refuses.
+    ///
+    /// Only loose blocks depend on `remains`. What a loose block holds afterwards is for the kind
+    /// to say, by `makes`: its old bytes, its new ones, any other bytes, or nothing that can be
+    /// read.
+    fn restart(&mut self, calls_left: u32, remains: &[u8])
         // as many blocks as before, and each that was not loose holds what it held
         ensures blocks { let m = Self.Device.medium self.old in
             let m' = Self.Device.medium self.new in
@@ -64,8 +106,9 @@ pub trait PoweredDevice: Device {
         ensures loose_set { (k : ℕ) → (Self.Device.medium self.new).loose k ≡ false }
 
         // the number asked for, or the kind's largest if that is smaller
-        ensures calls_left { (Self.Device.medium self.new).calls_left ≡ min calls most_calls }
-        ensures kind { Self.makes self.old (restarting calls remains.now) self.new };
+        ensures calls_left { (Self.Device.medium self.new).calls_left ≡ min calls_left most_calls }
+        ensures kind { Self.makes self.old (restarting calls_left remains.now) self.new };
 
-    ghost limit: { most_calls < 2 ^ 32 };
+    /// That number fits a device's count of calls.
+    ghost most_calls_fit: { most_calls < 2 ^ 32 };
 }

@@ -1,4 +1,4 @@
--- The code's carrying out is the rules' effect.
+-- What the code carries out is the effect by the rules.
 use Rattle.std.proofs.Common.{◌≡◌, ℕ, ◌<◌, true, false, cond, List, length, Some, None, Ok, Err, Result, sym, refl, ap, ◌∙◌, subst, arith}
 use Rattle.std.proofs.lemmas.Grind.{common_steps, get_or-set_at}
 use Rattle.std.proofs.lemmas.Bool.Decides.{nat_tests}
@@ -28,11 +28,11 @@ use Rattle.rulebook.proofs.Carries.{books-accept}
 use Rattle.rulebook.proofs.Following.{follows-rules, accepted}
 use Rattle.book.proofs.Accepted.{outcome-ok}
 
--- where a kind of a trade may start, the table leads on
+-- where a kind may start, the table leads on
 next-after : (k : Act) (o : State) → may_start k o ≡ true → next_state k o ≡ state_after k
 next-after k o e = rw e
 
--- one row put into the table
+-- one row of the table replaced
 module _ (rows : List Trade) (t : ℕ) (trade : Trade) (whole : length rows ≡ 128) (low : t < 128) where
   pub put-state : (u : ℕ) → state_at (rows_with rows t trade) u ≡ updated (state_at rows) t trade.state u
   put-state u = grind (arith, common_steps, nat_tests, get_or-set_at {X = Trade})
@@ -40,12 +40,12 @@ module _ (rows : List Trade) (t : ℕ) (trade : Trade) (whole : length rows ≡ 
   pub put-terms : (u : ℕ) → terms_at (rows_with rows t trade) u ≡ updated (terms_at rows) t trade.terms u
   put-terms u = grind (arith, common_steps, nat_tests, get_or-set_at {X = Trade})
 
--- terms that are put where they were already
+-- replacing a trade's terms with themselves changes nothing
 same-terms : (f : ℕ → Terms) (t u : ℕ) → updated f t (f t) u ≡ f u
 same-terms f t u = grind (arith, nat_tests)
 
 -- the table after an accepted instruction
-pub record Turned (k : Act) (x : Instruction) (rows after-rows : List Trade) : Type 0 where
+pub record RowsFollow (k : Act) (x : Instruction) (rows after-rows : List Trade) : Type 0 where
   pub states : (u : ℕ) → state_at after-rows u ≡ states_after (state_after k) (state_at rows) x.trade u
   pub terms : (u : ℕ) → terms_at after-rows u ≡ terms_after (is_enter k) (terms_at rows) x u
 
@@ -53,14 +53,14 @@ module _ (rows : List Trade) (x : Instruction) (whole : length rows ≡ 128) whe
   abbrev o : State
   o = state_at rows x.trade
 
-  -- the trade starts, and its new state is put
+  -- the instruction may start from the trade's state, so the trade's row is replaced
   moved : (k : Act) (p : State) → state_after k ≡ Some p → may_start k o ≡ true
       → rows_after k x rows ≡ rows_with rows x.trade
       (record { state = p; terms = cond (is_enter k) (terms_of x) (terms_at rows x.trade) })
   moved k p e w = let n : next_state k o ≡ Some p = next-after k o w ∙ e in rw n
 
   keeps-terms : (k : Act) (p : State) → state_after k ≡ Some p → is_enter k ≡ false → may_start k o ≡ true
-      → x.trade < 128 → Turned k x rows (rows_after k x rows)
+      → x.trade < 128 → RowsFollow k x rows (rows_after k x rows)
   keeps-terms k p e i w l =
       let v : Trade = record { state = p; terms = cond (is_enter k) (terms_of x) (terms_at rows x.trade) } in
       let q : v.terms ≡ terms_at rows x.trade = cond-false (is_enter k) (terms_of x) (terms_at rows x.trade) i in
@@ -70,21 +70,21 @@ module _ (rows : List Trade) (x : Instruction) (whole : length rows ≡ 128) whe
             ∙ same-terms (terms_at rows) x.trade u ∙ ap (λ b. terms_after b (terms_at rows) x u) (sym i);
       })
 
-  pub turned-rows : (h : Rulebook) (k : Act) (m : Terms) (s : Standing)
-      → first_refusal (all_checks h k o m s x) ≡ Ok tt → Turned k x rows (rows_after k x rows)
-  turned-rows h (Some Issue) m s p = record { states = λ u. refl; terms = λ u. refl }
-  turned-rows h (Some PayIn) m s p = record { states = λ u. refl; terms = λ u. refl }
-  turned-rows h None m s p = record { states = λ u. refl; terms = λ u. refl }
-  turned-rows h (Some Enter) m s p =
+  pub rows-follow : (h : Rulebook) (k : Act) (m : Terms) (s : Standing)
+      → first_refusal (all_checks h k o m s x) ≡ Ok tt → RowsFollow k x rows (rows_after k x rows)
+  rows-follow h (Some Issue) m s p = record { states = λ u. refl; terms = λ u. refl }
+  rows-follow h (Some PayIn) m s p = record { states = λ u. refl; terms = λ u. refl }
+  rows-follow h None m s p = record { states = λ u. refl; terms = λ u. refl }
+  rows-follow h (Some Enter) m s p =
       let r = right h (Some Enter) o m s x tt p in
       let v : Trade = record { state = Entered; terms = terms_of x } in
       rw (moved (Some Enter) Entered refl r.from) (record {
         states = λ u. put-state rows x.trade v whole r.low u;
         terms = λ u. put-terms rows x.trade v whole r.low u;
       })
-  turned-rows h k m s p = let r = right h k o m s x tt p in keeps-terms k _ refl refl r.from r.low
+  rows-follow h k m s p = let r = right h k o m s x tt p in keeps-terms k _ refl refl r.from r.low
 
--- an answer with its trade is a yes where the answer is, and a refused instruction leaves all as it was
+-- naming the trade in a fault does not change whether the answer is yes
 pub accepts : (x : Instruction) (r : Result (Unit {0}) Refusal) → with_trade x r ≡ Ok tt → r ≡ Ok tt
 accepts x (Ok u) e = refl
 accepts x (Err r) e = cc
@@ -94,12 +94,12 @@ unmoved : (s t : Standing) (x : Instruction) (f : Fault) (r : Result (Unit {0}) 
 unmoved s t x f (Ok u) e = cc
 unmoved s t x f (Err r) e = refl
 
--- what giving an instruction leaves, where the rules refuse it
+-- a ledger that is given an instruction which the rules refuse
 pub follows-refused : (h : Rulebook) (s : Standing) (x : Instruction) (f : Fault) → fault_answer h s x ≡ Err f
     → IsReachable h s → FollowsRules h s s x
 follows-refused h s x f e z = follows-rules h s s x z (sym (unmoved s (effect s x) x f (answer h s x) e))
 
--- and where they accept it: what carrying out leaves is what the rules say
+-- a ledger that is given an instruction which the rules accept
 pub follows-carried : {R C : Type 0} (r : book.Ghosts R) (c : book.Ghosts C) (p q : Parts R C) (x : Instruction)
     (k : Act)
     → kind_at x.kind ≡ k → fault_answer (rulebook_of r.book_kind c.book_kind) (standing_in r c p) x ≡ Ok tt
@@ -116,7 +116,7 @@ follows-carried r c p q x k is v (xs, run) er ec et =
     let trade = trade_at rows x.trade in
     let ok = accepts x (answer h s x) v in
     let takes = books-accept h xs s x run ok in
-    let tr = turned-rows rows x p.trades.all_rows h k trade.terms s (subst (λ k. answer_as h k s x ≡ Ok tt) is ok) in
+    let tr = rows-follow rows x p.trades.all_rows h k trade.terms s (subst (λ k. answer_as h k s x ≡ Ok tt) is ok) in
     let done : (d : Side) → book_after (h.book_kind d) d k x trade (s.book d) ≡ (effect s x).book d = λ d.
     ap (λ k. book_after (h.book_kind d) d k x trade (s.book d)) (sym is)
     ∙ sym (outcome-ok (h.book_kind d) (s.book d) (deed (kind_at x.kind) d trade.state trade.terms x)

@@ -1,4 +1,4 @@
--- The code's ledger as a standing.
+-- Where the code's ledger stands.
 use Rattle.std.proofs.Common.{◌≡◌, ℕ, ◌<◌, ◌≤◌, ◌⊎◌, inl, inr, List, [], map, get_or, replicate, sym, ap, ◌∙◌, ⊎_elim, subst, arith}
 use Rattle.std.specs.List.{range_with_len}
 use Rattle.std.proofs.lemmas.List.{get_or_past, get_or-replicate}
@@ -35,15 +35,15 @@ fresh r c rows er ec e =
     (λ z. get_or z t unentered_trade) e ∙ replicated t in
     standing-same r c rows empty er ec (λ t. ap (λ z. z.state) (row t)) (λ t. ap (λ z. z.terms) (row t))
 
--- no instruction leads to the empty standing
+-- the empty list leads to the empty standing
 pub reachable-empty : (h : Rulebook) (s : Standing) → s ≡ empty → IsReachable h s
 reachable-empty h s e = subst (IsReachable h) (sym e) ([], start)
 
--- a book has nothing of an account or an item that it has not
+-- a book has nothing on an account, or of an item, that does not exist
 abbrev pub Outside : BookKind → Holdings → Type 0
 Outside k b = (a i : ℕ) → (64 ≤ a) ⊎ (k.items ≤ i) → (b.free a i ≡ 0) × (b.blocked a i ≡ 0)
 
--- its table says the same
+-- then its table has the same amounts
 module _ (k : BookKind) (b : Holdings) (o : Outside k b) where
   row_of : ℕ → List Holding
   row_of a = map (holding_of b a) (range_with_len 0 k.items)

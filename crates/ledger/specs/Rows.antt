@@ -26,11 +26,11 @@ state_at rows t = (trade_at rows t).state
 abbrev pub terms_at : List Trade → ℕ → Terms
 terms_at rows t = (trade_at rows t).terms
 
--- the table with this trade in row t, if it has that row
+-- the table with row t replaced by this trade; past the table, the table as it was
 abbrev pub rows_with : List Trade → ℕ → Trade → List Trade
 rows_with rows t trade = if nat_le TRADES t then rows else slice_set rows t trade
 
--- what putting a trade there answers
+-- what replacing row t answers
 abbrev pub put_answer : ℕ → Result (Unit {0}) Refusal
 put_answer t = if nat_le TRADES t then Err (numbered 30) else Ok tt
 
@@ -41,15 +41,15 @@ startable_trade k r rows t =
     else if not (may_start k (state_at rows t)) then Err r
     else Ok (trade_at rows t)
 
--- the same where there may be no trade to put
+-- the table with row t replaced, if there is a trade to replace it by
 abbrev pub rows_with_any : List Trade → ℕ → Option Trade → List Trade
 rows_with_any rows t (Some trade) = rows_with rows t trade
 rows_with_any rows t None = rows
 
--- the table after an instruction of kind k
+-- the table after an instruction of kind k on the trade that it names
 abbrev pub rows_after : Act → Instruction → List Trade → List Trade
 rows_after k x rows = rows_with_any rows x.trade (next_trade k x (trade_at rows x.trade))
 
--- what the question of a trade's state is answered, where the states are these
+-- the answer to the question of a trade's state, by number, where f has the states
 abbrev pub state_question : (ℕ → State) → ℕ → Result State Refusal
 state_question f t = if nat_le TRADES t then Err (numbered 30) else Ok (f t)

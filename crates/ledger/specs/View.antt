@@ -79,7 +79,7 @@ abbrev pub IsKindOrFault : Act → Result (Unit {0}) Fault → Result Kind Fault
 IsKindOrFault k answer (Ok kind) = (k ≡ Some kind) × (answer ≡ Ok tt)
 IsKindOrFault k answer (Err fault) = answer ≡ Err fault
 
--- what the question of an account's amounts in one item of a book is answered
+-- the answer to the question of what an account has of an item of side d's book
 abbrev pub holding_question : Rulebook → Standing → Side → ℕ → ℕ → Result Holding Refusal
 holding_question h s d account item =
     amount_answer (h.book_kind d) (holding_of (s.book d)) account item

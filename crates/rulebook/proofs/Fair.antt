@@ -1,4 +1,4 @@
--- Sums over all trades under one change.
+-- Sums over all trades when one trade changes.
 use Rattle.std.proofs.Common.{◌≡◌, ℕ, ◌+◌, ◌<◌, Bool, true, false, eqb, sym, refl, ap, ◌∙◌, ⊎_elim, arith}
 use Rattle.std.proofs.lemmas.Bool.{eqb-true, eq-eqb, ne_eqb, cases_Bool, cond-true, cond-false}
 use Rattle.book.specs.Sums.{amount_if}
@@ -9,7 +9,7 @@ use Rattle.rulebook.specs.declared.Terms.{Terms}
 use Rattle.rulebook.specs.Rules.{updated}
 use Rattle.rulebook.proofs.Replay.{over}
 
--- a trade's change of state changes the sum over all trades by one term
+-- when one trade changes its state, its term alone changes in the sum
 pub shift : (c : State → Terms → ℕ) (st : ℕ → State) (tm : ℕ → Terms) (t : ℕ) (old new : State) → st t ≡ old
     → t < 128 → over c (updated st t new) tm + c old (tm t) ≡ over c st tm + c new (tm t)
 shift c st tm t old new e l =
@@ -20,7 +20,7 @@ shift c st tm t old new e l =
     (cond-true (eqb t t) new (st t) (eq-eqb t t refl)) in
     omega arith
 
--- a trade that is entered counts for nothing yet
+-- a trade that is entered adds nothing to the sum
 pub enters : (c : State → Terms → ℕ) (old : State) → ((m : Terms) → c old m ≡ 0) → ((m : Terms) → c Entered m ≡ 0)
     → (st : ℕ → State) (tm : ℕ → Terms) (t : ℕ) (m : Terms) → st t ≡ old
     → over c (updated st t Entered) (updated tm t m) ≡ over c st tm
@@ -32,7 +32,7 @@ enters c old zn ze st tm t m e =
     rw y (ze m ∙ sym (zn (tm u)) ∙ sym p))
     (λ (y : eqb t u ≡ false). rw y) (cases_Bool (eqb t u)))
 
--- the same, of a quantity that counts in the states that pass a test
+-- the same for a quantity that counts only in the states that pass a test
 pub shift-if : (p : State → Bool) (q : Terms → ℕ) (st : ℕ → State) (tm : ℕ → Terms) (t : ℕ) (old new : State)
     (po pn : Bool) → p old ≡ po → p new ≡ pn → st t ≡ old → t < 128
     → over (λ s m. amount_if (p s) (q m)) (updated st t new) tm + amount_if po (q (tm t)) ≡ over

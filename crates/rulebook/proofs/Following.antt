@@ -1,4 +1,4 @@
--- Where giving an instruction leads.
+-- Where a ledger stands after it was given an instruction.
 use Rattle.std.proofs.Common.{◌≡◌, [], ◌∷◌, ◌++◌, Ok, Err, Result, sym, refl, ap, ◌∙◌, subst}
 use Rattle.refusals.specs.declared.Refusal.{Refusal}
 use Rattle.instruction.specs.declared.Instruction.{Instruction}
@@ -16,7 +16,7 @@ accepted h s x e = ap (λ r. if_ok r (effect s x) s) e
 pub refused : (h : Rulebook) (s : Standing) (x : Instruction) (f : Refusal) → answer h s x ≡ Err f → step h s x ≡ s
 refused h s x f e = ap (λ r. if_ok r (effect s x) s) e
 
--- in both cases accepted instructions lead there
+-- in both cases some list of accepted instructions leads there
 stepped : (h : Rulebook) (s : Standing) (x : Instruction) → IsReachable h s → (r : Result (Unit {0}) Refusal)
     → answer h s x ≡ r → IsReachable h (if_ok r (effect s x) s)
 stepped h s x (xs, run) (Ok u) e = (xs ++ (x ∷ []), more x run e)

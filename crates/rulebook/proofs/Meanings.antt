@@ -1,4 +1,4 @@
--- What the law says of a list's last instructions, for a list read from left to right; and the steps of a trade.
+-- A list, read from left to right, leaves a trade as its last instructions say; a trade's steps.
 use Rattle.std.proofs.Common.{◌≡◌, ℕ, ◌<◌, ◌≤◌, true, false, eqb, ◌⊎◌, inl, inr, List, [], ◌∷◌, ◌++◌, Some, None, Ok, fold, sym, refl, ap, ◌∙◌, subst, ⊎_elim, arith}
 use Rattle.std.proofs.lemmas.Bool.{eqb-true, eq-eqb, ne_eqb, cases_Bool, cases_eq, cases_lt, cond-true, cond-false}
 use Rattle.instruction.specs.declared.Kind.{Kind}
@@ -36,7 +36,7 @@ untouched x f t h =
     (λ h. at-other f x.trade t _ (h (omega arith) (omega arith)))
     (λ n o h. refl) x.kind (λ l m e. h (record { from = l; to = m; trade = e }))
 
--- and one of this trade sets it
+-- an instruction on this trade sets its state
 touched : (x : Instruction) (f : ℕ → State) (t : ℕ) → IsOn t x → IsStateAfter x.kind (read_state f x t)
 touched x f t o =
     by-byte (λ k n. 3 ≤ n → n ≤ 7 → IsStateAfter n (states_after (state_after k) f x.trade t))
@@ -136,7 +136,7 @@ stated-last xs f x t l =
     let e = ap (λ ys. fold read_terms f ys t) l.place ∙ terms-x l.before l.later f x t l.holds l.never-later in
     subst (StatesTerms x) (sym e) (stated x)
 
--- a list has one last instruction of which P holds, if any
+-- a list has at most one last instruction with the property P
 module _ (P : Instruction → Type 0) where
   missed : (ys zs : List Instruction) (y : Instruction) → HasNo P (ys ++ (y ∷ zs)) → P y → ⊥
   missed [] zs y n p = n.0 p
@@ -204,7 +204,7 @@ lasts-are-unique = record {
   of-enter = λ t. record { some = some (IsEnterOn t) (is-enter-on t); one = one (IsEnterOn t) };
 }
 
--- a trade's instruction leads by the table
+-- an instruction on a trade leads where the table says
 steps : (k : Kind) (n : ℕ) → kind_at n ≡ Some k → (o p : State) (f : ℕ → State) (t : ℕ)
     → state_after (Some k) ≡ Some p → may_start (Some k) o ≡ true
     → TradeSteps o n (states_after (state_after (Some k)) f t t)
@@ -213,7 +213,7 @@ steps k n c o p f t e w =
     let v : states_after (state_after (Some k)) f t t ≡ p = ap (λ a. states_after a f t t) e ∙ at-same f t t p refl in
     subst (λ q. TradeSteps o n q) (sym v) (state-table.only o p n (ap (λ a. next_state a o) c ∙ b))
 
--- an accepted instruction of a trade moves it by one of the table's steps
+-- an accepted instruction on a trade moves it by one of the steps
 pub accepted-steps : (h : Rulebook) (s : Standing) (x : Instruction) → answer h s x ≡ Ok tt → 3 ≤ x.kind → x.kind ≤ 7
     → TradeSteps (s.state x.trade) x.kind ((effect s x).state x.trade)
 accepted-steps h s x ok l m =

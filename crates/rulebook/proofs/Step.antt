@@ -21,10 +21,10 @@ pub record Fair (d : Side) (b : Holdings) (st : ℕ → State) (tm : ℕ → Ter
   pub whole : b.free a i + b.blocked a i + over (give_of d a i) st tm ≡ cr + over (take_of d a i) st tm
   pub part : b.blocked a i ≡ over (hold_of d a i) st tm
 
--- one trade goes from old to new: what its side of a book does
+-- One trade goes from state old to new, and one side's book does what belongs to that.
 module _ (d : Side) (b : Holdings) (st : ℕ → State) (tm : ℕ → Terms) (cr a i t : ℕ) (old new : State) (l : t < 128)
     (e : st t ≡ old) (h : Fair d b st tm cr a i) where
-  -- what the trade counts for, as giver and as taker
+  -- what the trade adds to the sums where the account gives, and where it takes
   abbrev out : Terms → ℕ
   out m = amount_if (is_place (giver d m) (asset d m) a i) (volume d m)
 
@@ -68,13 +68,13 @@ module _ (d : Side) (b : Holdings) (st : ℕ → State) (tm : ℕ → Terms) (cr
       let m = shift-if (has_blocked d) out st tm t old new true false ho hn e l in
       record { whole = omega (arith, h.whole, h.part, g, k, m); part = omega (arith, h.part, m) }
 
-  -- Settle and Free find enough blocked
+  -- a Settle and a Free find enough blocked
   pub covers : has_blocked d old ≡ true → has_blocked d new ≡ false → out (tm t) ≤ b.blocked a i
   covers ho hn =
       let m = shift-if (has_blocked d) out st tm t old new true false ho hn e l in
       omega (arith, h.part, m)
 
--- a trade that is entered, from a state that counts for nothing
+-- a trade is entered, from a state that adds nothing
 pub entering : (d : Side) (b : Holdings) (st : ℕ → State) (tm : ℕ → Terms) (cr a i t : ℕ) (old : State) (m : Terms)
     → Idle d old → Idle d Entered → st t ≡ old → Fair d b st tm cr a i
     → Fair d b (updated st t Entered) (updated tm t m) cr a i
@@ -101,7 +101,7 @@ freed-blocks-none : (d : Side) → has_blocked d Freed ≡ false
 freed-blocks-none securities = refl
 freed-blocks-none cash = refl
 
--- what an instruction of a kind credits
+-- what an instruction of kind k credits
 abbrev pub credited_by : Act → Side → Instruction → ℕ → ℕ → ℕ
 credited_by (Some Issue) securities x a i = amount_if (is_place x.account x.item a i) x.quantity
 credited_by (Some PayIn) cash x a i = amount_if (is_place x.account x.currency a i) x.amount
@@ -129,38 +129,38 @@ module _ (h : Rulebook) (s : Standing) (x : Instruction) (a i : ℕ) where
   fair-step None d o cr n c f e p = uncredited _ _ _ _ _ _ _ n c f
   fair-step (Some Enter) d o cr n c f e p =
       let r = right h (Some Enter) o m s x tt p in
-      uncredited _ _ _ _ _ _ _ n c (entering _ _ _ _ _ _ _ _ o _ (enter-idle h d o r.from) (entered-idle d) e f)
+      uncredited _ _ _ _ _ _ _ n c (entering _ _ _ _ _ _ _ _ o _ (enter-idle d o r.from) (entered-idle d) e f)
   fair-step (Some Earmark) securities o cr n c f e p =
       let r = right h (Some Earmark) o m s x tt p in
-      let w = earmark-idle h securities o r.from in
+      let w = earmark-idle securities o r.from in
       uncredited _ _ _ _ _ _ _ n c (blocks securities
       (s.book securities) s.state s.terms cr a i x.trade o Earmarked r.low e f w.unsettled refl w.none-blocked
       refl (ltb-false _ _ (cleared h m s x (Some Earmark) o p).1.1.1.1.0))
   fair-step (Some Earmark) cash o cr n c f e p =
       let r = right h (Some Earmark) o m s x tt p in
-      let w = earmark-idle h cash o r.from in
+      let w = earmark-idle cash o r.from in
       uncredited _ _ _ _ _ _ _ n c (blocks-same cash
       (s.book cash) s.state s.terms cr a i x.trade o Earmarked r.low e f false w.unsettled refl w.none-blocked
       refl)
   fair-step (Some Fund) securities o cr n c f e p =
       let r = right h (Some Fund) o m s x tt p in
-      let w = fund-from h o r.from in
+      let w = fund-from o r.from in
       uncredited _ _ _ _ _ _ _ n c (blocks-same securities
       (s.book securities) s.state s.terms cr a i x.trade o Funded r.low e f true w.2 refl w.0 refl)
   fair-step (Some Fund) cash o cr n c f e p =
       let r = right h (Some Fund) o m s x tt p in
-      let w = fund-from h o r.from in
+      let w = fund-from o r.from in
       uncredited _ _ _ _ _ _ _ n c (blocks cash
       (s.book cash) s.state s.terms cr a i x.trade o Funded r.low e f w.2 refl w.1 refl
       (ltb-false _ _ (cleared h m s x (Some Fund) o p).1.1.1.1.0))
   fair-step (Some Settle) d o cr n c f e p =
       let r = right h (Some Settle) o m s x tt p in
-      let w = settle-from h d o r.from in
+      let w = settle-from d o r.from in
       uncredited _ _ _ _ _ _ _ n c (moves d
       (s.book d) s.state s.terms cr a i x.trade o Settled r.low e f w.1 refl w.0 (settled-blocks-none d))
   fair-step (Some Free) d o cr n c f e p =
       let r = right h (Some Free) o m s x tt p in
-      let w = free-from h o r.from in
+      let w = free-from o r.from in
       uncredited _ _ _ _ _ _ _ n c
       (⊎_elim (λ (y : has_blocked d o ≡ true). subst
       (λ v. Fair d (apply (s.book d) (cond v (releasing (giver d m) (asset d m) (volume d m)) no_change))

@@ -1,4 +1,4 @@
--- The law over whole runs.
+-- The law of the ledger, over every list of accepted instructions.
 use Rattle.std.proofs.Common.{◌≡◌, ℕ, List, sym, refl, ap, ◌∙◌, subst, arith}
 use Rattle.std.proofs.lemmas.List.Sums.{fold_push, sum_by_push}
 use Rattle.instruction.specs.declared.Instruction.{Instruction}

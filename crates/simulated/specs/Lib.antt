@@ -1,4 +1,4 @@
 pub mod Rows
 pub mod Lists
 pub mod Meaning
-pub mod RowLaws
+pub mod RowLemmas

@@ -1,71 +1,81 @@
--- The simulated image has 514 bytes a block. In such a row byte 0 is 0 if the block is readable, its 256 kept bytes
--- follow, byte 257 is 0 if the block is not loose, and its 256 newer bytes follow. Assumes nothing.
-use Rattle.std.specs.Prelude.{◌≡◌, ℕ, zero, suc, ◌+◌, Bool, cond, not, List, ◌∷◌, ◌++◌, length, take, drop, replicate, Some, Ok, Err, Option, ◌==◌, slice_index}
+-- The rows of a simulated device's image, and what each call makes of them. In a row byte 0 is 0
+-- if the block is readable, its kept bytes follow, the byte at LOOSE_FLAG is 0 if the block is not
+-- loose, and its newer bytes follow.
+use Rattle.std.specs.Prelude.{◌≡◌, ℕ, zero, suc, ◌+◌, Bool, if◌then◌else◌, not, List, ◌∷◌, ◌++◌, length, take, drop, replicate, Some, Ok, Err, Option, ◌==◌, slice_index}
 use Rattle.refusals.specs.Answers.{if_ok}
-use Rattle.device.specs.Calls.{Answer, admitted, spend_answer}
-use Rattle.device.specs.Images.{blocks, row, put, kept, readable, held, EachRow}
+use Rattle.device.specs.declared.TheConstants.{BLOCK_SIZE}
+use Rattle.device.specs.Calls.{Answer, admit_answer, spend_answer}
 use Rattle.device.specs.Traces.{DeviceCall, reading, writing, syncing, restarting}
+use Rattle.images.specs.Images.{block_count, row, with_row, kept_bytes, is_readable, held_bytes, ChangesRows}
+use Rattle.simulated.specs.declared.rows.TheConstants.{ROW, LOOSE_FLAG, NEWER, HALF_BLOCK}
 
-abbrev pub newer : List ℕ → List ℕ
-newer r = take 256 (drop 258 r)
+abbrev pub newer_bytes : List ℕ → List ℕ
+newer_bytes r = take BLOCK_SIZE (drop NEWER r)
 
 abbrev pub is_loose : List ℕ → Bool
-is_loose r = not (slice_index r 257 == 0)
+is_loose r = not (slice_index r LOOSE_FLAG == 0)
 
--- what the block reads as
-abbrev pub shown : List ℕ → Option (List ℕ)
-shown r = cond (is_loose r) (Some (newer r)) (held r)
+-- what the block of the row r reads as
+abbrev pub shown_bytes : List ℕ → Option (List ℕ)
+shown_bytes r = if is_loose r then Some (newer_bytes r) else held_bytes r
 
--- the row after a write, which leaves the kept half and its flag
-abbrev pub written : List ℕ → List ℕ → List ℕ
-written r bytes = take 257 r ++ (1 ∷ bytes)
+-- the row after a write, which leaves byte 0 and the kept bytes
+abbrev pub row_after_write : (r bytes : List ℕ) → List ℕ
+row_after_write r bytes = take LOOSE_FLAG r ++ (1 ∷ bytes)
 
--- a row that is not loose, with a first byte and kept bytes; its newer bytes stay
-abbrev pub keeping : ℕ → List ℕ → List ℕ → List ℕ
-keeping flag bytes r = flag ∷ (bytes ++ (0 ∷ newer r))
+-- the row r made not loose, with a first byte and kept bytes; its newer bytes stay
+abbrev pub firm_row : (flag : ℕ) (bytes r : List ℕ) → List ℕ
+firm_row flag bytes r = flag ∷ (bytes ++ (0 ∷ newer_bytes r))
 
--- the row after a sync
-abbrev pub synced : ℕ → List ℕ → List ℕ
-synced b r = cond (is_loose r) (keeping 0 (newer r) r) r
+-- the row r of block b after a sync
+abbrev pub row_after_sync : (b : ℕ) (r : List ℕ) → List ℕ
+row_after_sync b r = if is_loose r then firm_row 0 (newer_bytes r) r else r
 
--- what is left where a write was cut in the middle
-abbrev pub torn : List ℕ → List ℕ
-torn r = take 128 (newer r) ++ drop 128 (kept r)
+-- what a write leaves that was cut in the middle
+abbrev pub torn_bytes : List ℕ → List ℕ
+torn_bytes r = take HALF_BLOCK (newer_bytes r) ++ drop HALF_BLOCK (kept_bytes r)
 
--- what a restart makes of a loose row, by its byte of the remains
-abbrev pub revived : ℕ → List ℕ → List ℕ
-revived v r =
-    cond (v == 0) (keeping (slice_index r 0) (kept r) r)
-    (cond (v == 1) (keeping 0 (newer r) r)
-    (cond (v == 2) (keeping 1 (kept r) r)
-    (cond (v == 3) (cond (readable r) (keeping 0 (torn r) r) (keeping 1 (kept r) r))
-    (keeping 0 (replicate 256 v) r))))
+-- what a restart makes of a loose row, by its byte v of the remains
+abbrev pub revived_row : (v : ℕ) (r : List ℕ) → List ℕ
+revived_row v r =
+    if v == 0 then firm_row (slice_index r 0) (kept_bytes r) r
+    else (if v == 1 then firm_row 0 (newer_bytes r) r
+    else (if v == 2 then firm_row 1 (kept_bytes r) r
+    else (if v == 3 then (if is_readable r then firm_row 0 (torn_bytes r) r
+    else firm_row 1 (kept_bytes r) r)
+    else firm_row 0 (replicate BLOCK_SIZE v) r)))
 
 -- how many of the first b blocks are loose
-abbrev pub loose_below : List ℕ → ℕ → ℕ
-loose_below image zero = 0
-loose_below image (suc b) = cond (is_loose (row 514 image b)) (loose_below image b + 1) (loose_below image b)
+abbrev pub loose_count : (image : List ℕ) (b : ℕ) → ℕ
+loose_count image zero = 0
+loose_count image (suc b) =
+    if is_loose (row ROW image b) then loose_count image b + 1 else loose_count image b
 
--- the row of block b after a restart: the loose blocks take the remains in rising number, and 0 where none is left
-abbrev pub restarted : List ℕ → List ℕ → ℕ → List ℕ → List ℕ
-restarted image remains b r = cond (is_loose r) (revived (slice_index remains (loose_below image b)) r) r
+-- The row r of block b after a restart: the loose blocks take the remains in rising number, and 0
+-- where none is left.
+abbrev pub row_after_restart : (image remains : List ℕ) (b : ℕ) (r : List ℕ) → List ℕ
+row_after_restart image remains b r =
+    if is_loose r then revived_row (slice_index remains (loose_count image b)) r else r
 
--- the image after a write to block b
-abbrev pub image_written : List ℕ → ℕ → List ℕ → List ℕ
-image_written image b bytes = put 514 image b (written (row 514 image b) bytes)
+-- the image after an accepted write to block b
+abbrev pub image_after_write : (image : List ℕ) (b : ℕ) (bytes : List ℕ) → List ℕ
+image_after_write image b bytes = with_row ROW image b (row_after_write (row ROW image b) bytes)
 
--- the image ys after a sync of xs
-abbrev pub ImageSynced : Answer → List ℕ → List ℕ → Type 0
-ImageSynced (Ok x) xs ys = EachRow 514 synced (blocks 514 xs) xs ys
-ImageSynced (Err e) xs ys = ys ≡ xs
+-- A sync that is answered so makes the image xs to ys.
+abbrev pub SyncsImage : Answer → (xs ys : List ℕ) → Type 0
+SyncsImage (Ok x) xs ys = ChangesRows ROW row_after_sync (block_count ROW xs) xs ys
+SyncsImage (Err e) xs ys = ys ≡ xs
 
--- the image ys after a restart of xs
-abbrev pub ImageRestarted : List ℕ → List ℕ → List ℕ → Type 0
-ImageRestarted xs remains ys = EachRow 514 (restarted xs remains) (blocks 514 xs) xs ys
+-- A restart makes the image xs to ys.
+abbrev pub RestartsImage : (xs remains ys : List ℕ) → Type 0
+RestartsImage xs remains ys =
+    ChangesRows ROW (row_after_restart xs remains) (block_count ROW xs) xs ys
 
--- the image ys after a call of a device with the image xs and so many calls left
-abbrev pub ImageAfter : List ℕ → ℕ → DeviceCall → List ℕ → Type 0
-ImageAfter xs left (reading b room) ys = ys ≡ xs
-ImageAfter xs left (writing b bytes) ys = ys ≡ if_ok (admitted (blocks 514 xs) left b (length bytes)) (image_written xs b bytes) xs
-ImageAfter xs left syncing ys = ImageSynced (spend_answer left) xs ys
-ImageAfter xs left (restarting calls remains) ys = ImageRestarted xs remains ys
+-- A call of a device with the image xs and so many calls left makes the image to ys.
+abbrev pub LeavesImage : (xs : List ℕ) (calls_left : ℕ) → DeviceCall → (ys : List ℕ) → Type 0
+LeavesImage xs calls_left (reading b room) ys = ys ≡ xs
+LeavesImage xs calls_left (writing b bytes) ys =
+    let answer = admit_answer (block_count ROW xs) calls_left b (length bytes) in
+    ys ≡ if_ok answer (image_after_write xs b bytes) xs
+LeavesImage xs calls_left syncing ys = SyncsImage (spend_answer calls_left) xs ys
+LeavesImage xs calls_left (restarting asked remains) ys = RestartsImage xs remains ys

@@ -1,10 +1,19 @@
-// A device simulated over an image, which says what a cut of the power leaves of each block that was not synced.
+//! A device that is simulated over an image.
+//!
+//! [`Simulated`] keeps a block's old bytes beside its newer ones until a sync, and a restart picks
+//! for each loose block what is left of it, by a byte of the remains: the old bytes, the new ones,
+//! half of each, a fill, or nothing that can be read. It is a `Device` and a `PoweredDevice` and
+//! meets their contracts. What it says more of a call is `Makes`: every byte of the image after
+//! it, so nothing is left open (the clause `fixed` of `Simulated::new`). docs/DEVICES.md has the
+//! rows.
 #![tactic(auto)]
 
-ghost use Rattle.simulated.specs.Rows.{is_loose, shown};
+ghost use Rattle.device.specs.declared.TheConstants.{MOST_CALLS};
+ghost use Rattle.simulated.specs.declared.rows.TheConstants.{ROW};
+ghost use Rattle.simulated.specs.Rows.{is_loose, shown_bytes};
 ghost use Rattle.simulated.specs.Meaning.{meaning, Makes};
-ghost use Rattle.device.proofs.Meaning.{bounded};
-ghost use Rattle.simulated.specs.RowLaws.{shows};
+ghost use Rattle.images.proofs.Meaning.{bounded};
+ghost use Rattle.simulated.specs.RowLemmas.{shows};
 ghost use Rattle.std.proofs.Common.{rules};
 
 mod loose;
@@ -23,7 +32,8 @@ impl Device for Simulated {
 
     ghost makes = { Makes };
 
-    ghost bounds = { λ d. bounded 514 shown is_loose shows d.rows.image.items d.rows.calls_left d.rows.calls d.rows.bytes };
+    ghost bounds = { λ d. let r = d.rows in
+        bounded ROW shown_bytes is_loose shows r.image.items r.calls_left r.few_calls r.bytes };
 
     fn size(&self) -> u32 {
         self.rows.size
@@ -49,12 +59,12 @@ impl Device for Simulated {
 }
 
 impl PoweredDevice for Simulated {
-    ghost most_calls = { 4294967295 };
+    ghost most_calls = { MOST_CALLS };
 
-    ghost limit = { Prim.search rules };
+    ghost most_calls_fit = { Prim.search rules };
 
-    fn restart(&mut self, calls: u32, remains: &[u8]) {
-        self.rows.calls_left = calls;
+    fn restart(&mut self, calls_left: u32, remains: &[u8]) {
+        self.rows.calls_left = calls_left;
         restart_all(&mut self.rows, remains);
         self.loose.clear(*self.rows.image.allocator());
     }

@@ -1,26 +1,38 @@
-// One block's 514 bytes: a byte, 0 if the block is readable, and its 256 kept bytes; a byte, 0 if it is not loose, and its
-// 256 newer bytes.
+// The row of one block: 0 if the block is readable, its kept bytes, 0 if the block is not loose,
+// and its newer bytes.
 ghost use Rattle.std.specs.Prelude.{◌≡◌, drop, length, if◌then◌else◌, slice_index};
 ghost use Rattle.std.specs.Slice.Iter.{iter_rest};
-ghost use Rattle.device.specs.Bytes.{Bytes};
-ghost use Rattle.device.specs.Images.{kept};
-ghost use Rattle.simulated.specs.Rows.{is_loose, newer, shown, written, keeping, synced, torn, revived};
-ghost use Rattle.simulated.specs.RowLaws.{written-full, written-shown};
+ghost use Rattle.device.specs.Bytes.{AreBytes};
+ghost use Rattle.images.specs.Images.{kept_bytes};
+ghost use Rattle.simulated.specs.Rows.{is_loose, newer_bytes, shown_bytes, row_after_write, firm_row, row_after_sync, torn_bytes, revived_row};
+ghost use Rattle.simulated.specs.RowLemmas.{written-full, written-shown};
 
-use device::{BLOCK_SIZE, RowFormat, held_bytes};
+use device::BLOCK_SIZE;
+use images::{RowFormat, held_bytes};
 use std::slice::Iter;
 
+// The number of bytes in a row.
 pub(crate) const ROW: usize = 514;
 
-// The layout of a row that keeps its old bytes beside newer ones until a sync.
+// The place in a row of the byte that says whether the block is loose. The kept bytes end before
+// it.
+pub(crate) const LOOSE_FLAG: usize = 257;
+
+// The place in a row of the first newer byte.
+pub(crate) const NEWER: usize = 258;
+
+// Half as many bytes as a block has: where a torn write stops.
+pub(crate) const HALF_BLOCK: usize = 128;
+
+// The format of a row that keeps a block's old bytes beside the newer ones until a sync.
 pub(crate) struct Halves;
 
 impl RowFormat<ROW> for Halves {
-    ghost shown = { shown };
+    ghost shown_bytes = { shown_bytes };
 
     ghost is_loose = { is_loose };
 
-    ghost written = { written };
+    ghost row_after_write = { row_after_write };
 
     fn show(row: &[u8; ROW]) -> Option<&[u8; BLOCK_SIZE]> {
         if row_is_loose(row) {
@@ -32,11 +44,11 @@ impl RowFormat<ROW> for Halves {
 
     #[tactic(auto, using(crate::proofs::RowLaws::written_is))]
     fn store(row: &mut [u8; ROW], bytes: &[u8; BLOCK_SIZE]) {
-        row[257] = 1;
-        row[258..].copy_from_slice(bytes);
+        row[LOOSE_FLAG] = 1;
+        row[NEWER..].copy_from_slice(bytes);
     }
 
-    ghost fills = { written-full };
+    ghost keeps_width = { written-full };
 
     ghost reads_back = { written-shown };
 }
@@ -44,60 +56,61 @@ impl RowFormat<ROW> for Halves {
 pub(crate) fn row_is_loose(row: &[u8; ROW]) -> bool
     ensures { result ≡ is_loose row.now }
 {
-    row[257] != 0
+    row[LOOSE_FLAG] != 0
 }
 
 fn kept_bytes(row: &[u8; ROW]) -> &[u8; BLOCK_SIZE]
-    ensures { result.now ≡ kept row.now }
+    ensures { result.now ≡ kept_bytes row.now }
 {
-    row[1..257].as_array().unwrap()
+    row[1..LOOSE_FLAG].as_array().unwrap()
 }
 
 fn newer_bytes(row: &[u8; ROW]) -> &[u8; BLOCK_SIZE]
-    ensures { result.now ≡ newer row.now }
+    ensures { result.now ≡ newer_bytes row.now }
 {
-    row[258..514].as_array().unwrap()
+    row[NEWER..ROW].as_array().unwrap()
 }
 
 // Gives a row its first byte and its kept bytes, and makes it not loose.
 fn keep(row: &mut [u8; ROW], flag: u8, bytes: &[u8; BLOCK_SIZE])
-    ensures { row.new ≡ keeping flag bytes.now row.old }
+    ensures { row.new ≡ firm_row flag bytes.now row.old }
 {
     row[0] = flag;
-    row[1..257].copy_from_slice(bytes);
-    row[257] = 0;
+    row[1..LOOSE_FLAG].copy_from_slice(bytes);
+    row[LOOSE_FLAG] = 0;
 }
 
 // Keeps the kept bytes under a first byte.
 fn mark(row: &mut [u8; ROW], flag: u8)
-    ensures { row.new ≡ keeping flag (kept row.old) row.old }
+    ensures { row.new ≡ firm_row flag (kept_bytes row.old) row.old }
 {
     let bytes = *kept_bytes(row);
     keep(row, flag, &bytes);
 }
 
-// Keeps the newer bytes.
+// Keeps the newer bytes, which are readable then.
 fn keep_newer(row: &mut [u8; ROW])
-    ensures { row.new ≡ keeping 0 (newer row.old) row.old }
+    ensures { row.new ≡ firm_row 0 (newer_bytes row.old) row.old }
 {
     let bytes = *newer_bytes(row);
     keep(row, 0, &bytes);
 }
 
-// The first 128 newer bytes and the last 128 kept ones.
+// What a write leaves that was cut in the middle: the first half is new, the second old.
 fn tear(row: &[u8; ROW]) -> [u8; BLOCK_SIZE]
-    ensures { result ≡ torn row.now }
+    ensures { result ≡ torn_bytes row.now }
 {
     let mut bytes = *kept_bytes(row);
-    bytes[..128].copy_from_slice(&newer_bytes(row)[..128]);
+    bytes[..HALF_BLOCK].copy_from_slice(&newer_bytes(row)[..HALF_BLOCK]);
     bytes
 }
 
-// Moves the newer bytes of a loose row into the kept ones. The row is all of the slice: a caller that lent a part of a slice
-// as an array would not know what the array left there.
+// Moves the newer bytes of a loose row into the kept ones. The row comes as a slice, and becomes
+// an array here: after an array that was made of a part of a slice, a contract no longer says what
+// the slice holds.
 pub(crate) fn sync_row(row: &mut [u8])
-    requires { length row.old ≡ 514 }
-    ensures { row.new ≡ synced 0 row.old }
+    requires { length row.old ≡ ROW }
+    ensures { row.new ≡ row_after_sync 0 row.old }
 {
     let row = row.as_mut_array().unwrap();
     if row_is_loose(row) {
@@ -105,10 +118,9 @@ pub(crate) fn sync_row(row: &mut [u8])
     }
 }
 
-// What a restart makes of a loose row, by its byte of the remains. An enum would be no plainer, since most bytes are
-// themselves what the row is filled with.
+// What a restart makes of a loose row, by its byte of the remains.
 fn revive(row: &mut [u8; ROW], byte: u8)
-    ensures { row.new ≡ revived byte row.old }
+    ensures { row.new ≡ revived_row byte row.old }
 {
     let flag = row[0];
     match byte {
@@ -133,12 +145,16 @@ fn take_byte(remains: &mut Iter<'_, u8>) -> u8
     remains.next().copied().unwrap_or(0)
 }
 
-// Restarts a row, which is all of the slice as above. A loose one takes the next byte of the remains.
+// Restarts a row, which comes as a slice as in `sync_row`. A loose one takes the next byte of the
+// remains.
 pub(crate) fn restart_row(row: &mut [u8], remains: &mut Iter<'_, u8>)
-    requires { length row.old ≡ 514 }
-    ensures row { row.new ≡ (if is_loose row.old then revived (slice_index (iter_rest remains.old) 0) row.old else row.old) }
-    ensures taken { iter_rest remains.new ≡ (if is_loose row.old then drop 1 (iter_rest remains.old) else iter_rest remains.old) }
-    ensures bytes { Bytes row.new }
+    requires { length row.old ≡ ROW }
+    ensures row { row.new
+        ≡ (if is_loose row.old then revived_row (slice_index (iter_rest remains.old) 0) row.old
+        else row.old) }
+    ensures taken { iter_rest remains.new
+        ≡ (if is_loose row.old then drop 1 (iter_rest remains.old) else iter_rest remains.old) }
+    ensures bytes { AreBytes row.new }
 {
     let row = row.as_mut_array().unwrap();
     if row_is_loose(row) {

@@ -2,9 +2,9 @@ use Rattle.std.proofs.Common.{◌≡◌, ℕ, ◌+◌, ◌/◌, ◌<◌, true, f
 use Rattle.std.proofs.lemmas.List.{length_push, get_or-take}
 use Rattle.std.proofs.lemmas.Slice.{pushed}
 use Rattle.std.proofs.lemmas.Bool.{false≢true, cases_eq, cond-true, cond-false}
-use Rattle.device.specs.Images.{row}
-use Rattle.simulated.specs.Rows.{is_loose, loose_below}
-use Rattle.simulated.specs.Lists.{names}
+use Rattle.images.specs.Images.{row}
+use Rattle.simulated.specs.Rows.{is_loose, loose_count}
+use Rattle.simulated.specs.Lists.{is_on}
 use Rattle.simulated.proofs.ListLaws.{names-last, names-more, lists-from, chunk-row}
 use Rattle.simulated.proofs.SweepLaws.{loose-more}
 use Rattle.simulated.proofs.loose.list_loose.Goals as goal
@@ -27,11 +27,11 @@ loop-b-preserved c =
     elim c.if-row_is_loose.branch [
       | then-row_is_loose+in_ok-push w ↦
           let is : vec_items c.if-row_is_loose.list ≡ old ++ (b ∷ []) = ap vec_items w.list-is ∙ pushed (b ∷ []) refl w.in_ok-push.was w.push.ensures.items in
-          let more : loose_below xs (b + 1) ≡ loose_below xs b + 1 = loose-more xs b ∙ cond-true (is_loose (row 514 xs b)) _ _ (sym seen ∙ w.if-row_is_loose.true) in (
+          let more : loose_count xs (b + 1) ≡ loose_count xs b + 1 = loose-more xs b ∙ cond-true (is_loose (row 514 xs b)) _ _ (sym seen ∙ w.if-row_is_loose.true) in (
             λ k l e.
-                subst (λ (zs : List ℕ). names zs k ≡ true) (sym is)
+                subst (λ (zs : List ℕ). is_on zs k ≡ true) (sym is)
                 (elim (cases_eq k b) [
-                  | inl same ↦ subst (λ (j : ℕ). names (old ++ (b ∷ [])) j ≡ true) (sym same) (names-last old b)
+                  | inl same ↦ subst (λ (j : ℕ). is_on (old ++ (b ∷ [])) j ≡ true) (sym same) (names-last old b)
                   | inr away ↦ names-more old b k (inv.0 k (omega arith) e)
                 ]),
             omega (arith, ap length is, length_push old b, more, inv.1),
@@ -39,9 +39,9 @@ loop-b-preserved c =
       | else-row_is_loose w ↦
           let is = ap vec_items w.list-is in
           let firm : is_loose (row 514 xs b) ≡ false = sym seen ∙ w.if-row_is_loose.false in
-          let same_count : loose_below xs (b + 1) ≡ loose_below xs b = loose-more xs b ∙ cond-false (is_loose (row 514 xs b)) _ _ firm in (
+          let same_count : loose_count xs (b + 1) ≡ loose_count xs b = loose-more xs b ∙ cond-false (is_loose (row 514 xs b)) _ _ firm in (
             λ k l e.
-                subst (λ (zs : List ℕ). names zs k ≡ true) (sym is)
+                subst (λ (zs : List ℕ). is_on zs k ≡ true) (sym is)
                 (elim (cases_eq k b) [
                   | inl same ↦ absurd (false≢true (sym firm ∙ ap (λ (j : ℕ). is_loose (row 514 xs j)) (sym same) ∙ e))
                   | inr away ↦ inv.0 k (omega arith) e
@@ -57,5 +57,5 @@ returns c =
     let all : c.loop-b.b ≡ c.args.rows.now.size = omega (arith, long, same, c.as_chunks.ensures.front_len, c.args.rows.now.sized) in
     record {
       listed = lists-from c.loop-b.list.items c.args.rows.now.image.items (λ b l e. c.loop-b.invariant.0 b (omega arith) e);
-      short = omega (arith, c.loop-b.invariant.1, ap (loose_below c.args.rows.now.image.items) all);
+      short = omega (arith, c.loop-b.invariant.1, ap (loose_count c.args.rows.now.image.items) all);
     }

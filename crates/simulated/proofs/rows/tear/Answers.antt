@@ -1,6 +1,6 @@
 use Rattle.std.proofs.Common.{◌≡◌, ℕ, List, ◌++◌, length, take, drop, ap, ◌∙◌, arith, length-take}
-use Rattle.simulated.specs.Rows.{newer}
-use Rattle.simulated.specs.RowLaws.{kept-full, newer-full}
+use Rattle.simulated.specs.Rows.{newer_bytes}
+use Rattle.simulated.specs.RowLemmas.{kept-full, newer-full}
 use Rattle.simulated.proofs.rows.tear.Goals as goal
 
 pub slice_bounds-bytes-end : goal.slice_bounds-bytes-end
@@ -15,5 +15,5 @@ copy_from_slice-requires c = simp length-take (omega (arith, ap length c.kept_by
 pub returns : goal.returns
 returns c =
     let r = c.args.row.now in
-    let front : c.copy_from_slice.new.self ≡ take 128 (newer r) = c.copy_from_slice.ensures.after ∙ ap (take 128) c.newer_bytes.ensures in
-    ap (λ (xs : List ℕ). xs ++ drop 128 c.kept_bytes.result.now) front ∙ ap (λ (xs : List ℕ). take 128 (newer r) ++ drop 128 xs) c.kept_bytes.ensures
+    let front : c.copy_from_slice.new.self ≡ take 128 (newer_bytes r) = c.copy_from_slice.ensures.after ∙ ap (take 128) c.newer_bytes.ensures in
+    ap (λ (xs : List ℕ). xs ++ drop 128 c.kept_bytes.result.now) front ∙ ap (λ (xs : List ℕ). take 128 (newer_bytes r) ++ drop 128 xs) c.kept_bytes.ensures

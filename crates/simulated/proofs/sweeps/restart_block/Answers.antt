@@ -1,11 +1,11 @@
 use Rattle.std.proofs.Common.{◌≡◌, ◌*◌, ◌<◌, ℕ, List, refl, sym, subst, length, cond, get_or, drop, ap, ◌∙◌, arith}
 use Rattle.std.proofs.lemmas.Bool.{cond_both}
 use Rattle.std.specs.Slice.Iter.{iter_rest}
-use Rattle.device.specs.Bytes.{Bytes}
-use Rattle.device.proofs.Splices.{splice-bytes}
-use Rattle.device.specs.Images.{blocks, row}
-use Rattle.device.proofs.Rows.{lent-put, slice-row, row-whole}
-use Rattle.simulated.specs.Rows.{is_loose, revived}
+use Rattle.device.specs.Bytes.{AreBytes}
+use Rattle.images.proofs.Splices.{splice-bytes}
+use Rattle.images.specs.Images.{block_count, row}
+use Rattle.images.proofs.Rows.{lent-put, slice-row, row-whole}
+use Rattle.simulated.specs.Rows.{is_loose, revived_row}
 use Rattle.simulated.proofs.RowLaws.{revived-any, keeping-full}
 use Rattle.simulated.proofs.sweeps.restart_block.Goals as goal
 
@@ -16,14 +16,14 @@ returns-clause-image c =
     let b = c.args.block in
     let lent = c.as_mut_slice-image.ensures.value in
     let v = get_or (iter_rest c.args.remains.now) 0 0 in
-    let in-range : b < blocks 514 xs = omega (arith, c.requires, d.sized) in
+    let in-range : b < block_count 514 xs = omega (arith, c.requires, d.sized) in
     let was = row 514 xs b in
     let wide = row-whole 514 xs b in-range in
-    let r = cond (is_loose was) (revived v was) was in
+    let r = cond (is_loose was) (revived_row v was) was in
     let full : length r ≡ 514 = cond_both (is_loose was) _ _ (λ zs. length zs ≡ 514)
     (λ _. revived-any (λ zs. length zs ≡ 514) v was wide (λ flag bytes n. keeping-full was bytes flag wide n)) (λ _. wide) in
     lent-put 514 d.image c.as_mut_slice-image.result.now b c.restart_row.new.row r in-range lent
-    (c.restart_row.ensures.row ∙ ap (λ (s : List ℕ). cond (is_loose s) (revived v s) s) (slice-row 514 xs c.as_mut_slice-image.result.now b lent)) full
+    (c.restart_row.ensures.row ∙ ap (λ (s : List ℕ). cond (is_loose s) (revived_row v s) s) (slice-row 514 xs c.as_mut_slice-image.result.now b lent)) full
 
 pub returns-clause-taken : goal.returns-clause-taken
 returns-clause-taken c =
@@ -37,7 +37,7 @@ invariant_of-rows-clause-bytes c =
     let xs = d.image.items in
     let b = c.args.block in
     let new = c.restart_row.new.row in
-    let in-range : b < blocks 514 xs = omega (arith, c.requires, d.sized) in
+    let in-range : b < block_count 514 xs = omega (arith, c.requires, d.sized) in
     let seen = slice-row 514 xs c.as_mut_slice-image.result.now b c.as_mut_slice-image.ensures.value in
     let full : length new ≡ 514 = c.restart_row.auto.row ∙ ap length seen ∙ row-whole 514 xs b in-range in
-    subst Bytes (sym (lent-put 514 d.image c.as_mut_slice-image.result.now b new new in-range c.as_mut_slice-image.ensures.value refl full)) (splice-bytes xs (514 * b) new d.bytes c.restart_row.ensures.bytes)
+    subst AreBytes (sym (lent-put 514 d.image c.as_mut_slice-image.result.now b new new in-range c.as_mut_slice-image.ensures.value refl full)) (splice-bytes xs (514 * b) new d.bytes c.restart_row.ensures.bytes)

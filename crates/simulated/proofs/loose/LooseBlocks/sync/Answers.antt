@@ -1,6 +1,6 @@
 use Rattle.std.proofs.Common.{ℕ, List, subst}
-use Rattle.device.specs.Images.{EachRow}
-use Rattle.simulated.specs.Lists.{Names, synced_if}
+use Rattle.images.specs.Images.{ChangesRows}
+use Rattle.simulated.specs.Lists.{ListsLoose, row_after_listed_sync}
 use Rattle.simulated.proofs.ListLaws.{listed-all}
 use Rattle.simulated.proofs.loose.LooseBlocks.sync.Goals as goal
 
@@ -10,8 +10,8 @@ returns-in-Some c =
     let xs = d.image.items in
     let ys = c.sync_listed.new.rows.image.items in
     let list = c.in-Some.list.items in
-    let named : Names list xs = rw c.in-Some.is at c.requires in
+    let named : ListsLoose list xs = rw c.in-Some.is at c.requires in
     record {
-      image = listed-all d.size xs ys list d.sized named (subst (λ (zs : List ℕ). EachRow 514 (synced_if zs) d.size xs ys) c.as_slice.ensures.value c.sync_listed.ensures.image);
+      image = listed-all d.size xs ys list d.sized named (subst (λ (zs : List ℕ). ChangesRows 514 (row_after_listed_sync zs) d.size xs ys) c.as_slice.ensures.value c.sync_listed.ensures.image);
       calls_left = c.sync_listed.ensures.calls_left;
     }

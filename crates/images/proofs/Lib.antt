@@ -1,0 +1,4 @@
+pub mod Splices
+pub mod Rows
+pub mod Meaning
+pub mod Determined

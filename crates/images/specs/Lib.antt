@@ -1,0 +1,3 @@
+pub mod Splices
+pub mod Images
+pub mod Changes
