@@ -48,7 +48,8 @@ impl<'a> Case<'a> {
         self.add(restart, Reply::Done)
     }
 
-    // An open that is answered 0: the entries found, and the verdict on the slip that is owed, if any.
+    // An open that is answered 0: the entries found, and the verdict on the slip that is owed, if
+    // any.
     pub(crate) fn open(&mut self, found: u32, verdict: Option<Verdict>) -> Result<(), AllocError> {
         let reply = OpenReply {
             answer: Ok(()),

@@ -1,4 +1,5 @@
-// Every cut: the calls of each case, the replies that they are to have, and where the replies differ.
+// Every cut: the calls of each case, the replies that they are to have, and where the replies
+// differ.
 use crate::case::Case;
 use crate::kinds::{DeviceKind, ENOUGH_CALLS, PAIRS, RegisterKind};
 use crate::settlement::{TRADE, first_five, last_three, pay_in, rows};
@@ -10,8 +11,8 @@ use std::alloc::{AllocError, Global};
 use std::cmp::Ordering;
 use std::io;
 
-// How many calls of the device are left to the last three instructions, and the byte of remains that
-// each loose block takes at the restart after them.
+// How many calls of the device are left to the last three instructions, and the byte of remains
+// that each loose block takes at the restart after them.
 #[derive(Clone, Copy, Debug)]
 struct CutPoint {
     calls_left: u8,
@@ -24,8 +25,8 @@ const ENTRY_CALLS: u8 = 4;
 // The last three take 12.
 const LAST_CALLS: u8 = 12;
 
-// An opening that finds five entries takes 12 calls: the header, five marks with their records, and
-// the sixth mark.
+// An opening that finds five entries takes 12 calls: the header, five marks with their records,
+// and the sixth mark.
 const OPENING_CALLS: u32 = 12;
 
 // The fault of an instruction whose entry is cut after so many of its four calls. Entry k has its
@@ -45,8 +46,8 @@ fn cut_fault(entry: u32, calls_made: u8, trade: Option<u32>) -> Fault {
     }
 }
 
-// What the instruction at this place of the last three is answered. Only the first, the Settle, names
-// a trade. The five before them have the entries 0 to 4.
+// What the instruction at this place of the last three is answered. Only the first, the Settle,
+// names a trade. The five before them have the entries 0 to 4.
 fn answer_at(calls_left: u8, place: u8) -> Result<(), Fault> {
     match place.cmp(&(calls_left / ENTRY_CALLS)) {
         Ordering::Less => Ok(()),
@@ -58,11 +59,10 @@ fn answer_at(calls_left: u8, place: u8) -> Result<(), Fault> {
     }
 }
 
-// Whether the instruction in hand stands. That is open only where its mark was written and not synced.
+// Whether the instruction in hand stands. That is open only where its mark was written and not
+// synced.
 fn hand_stands<D: DeviceKind>(cut: CutPoint) -> bool {
-    cut.calls_left < LAST_CALLS
-        && cut.calls_left % ENTRY_CALLS == 3
-        && D::keeps_mark(cut.remains)
+    cut.calls_left < LAST_CALLS && cut.calls_left % ENTRY_CALLS == 3 && D::keeps_mark(cut.remains)
 }
 
 // Five instructions and a cut of the power, and three more with so many calls left.
@@ -79,8 +79,8 @@ fn add_settlement(case: &mut Case<'_>, quantity: u64, calls_left: u8) -> Result<
     case.instruct(pay, answer_at(calls_left, 2))
 }
 
-// One more instruction, and another cut. The instruction takes the next entry, whatever is left there
-// of the one that was cut; there is no entry after the eighth.
+// One more instruction, and another cut. The instruction takes the next entry, whatever is left
+// there of the one that was cut; there is no entry after the eighth.
 fn add_one_more(case: &mut Case<'_>, standing: u8) -> Result<(), AllocError> {
     if standing < 3 {
         case.instruct(pay_in(1), Ok(()))?;

@@ -24,8 +24,8 @@ pub(crate) trait DeviceKind: PoweredDevice + Drop {
     // A device over the image, with calls enough.
     fn over(image: Vec<u8>) -> Self;
 
-    // Whether a mark is good after a restart with this byte of remains, if it was written over zeros
-    // and not synced.
+    // Whether a mark is good after a restart with this byte of remains, if it was written over
+    // zeros and not synced.
     fn keeps_mark(remains: u8) -> bool;
 }
 
@@ -38,8 +38,8 @@ impl DeviceKind for Simulated {
         Simulated::new(image, ENOUGH_CALLS)
     }
 
-    // 1 takes the newer bytes, and 3 the first 128 of them: the rest of a mark is zeros, as the block
-    // was before.
+    // 1 takes the newer bytes, and 3 the first 128 of them: the rest of a mark is zeros, as the
+    // block was before.
     fn keeps_mark(remains: u8) -> bool {
         matches!(remains, 1 | 3)
     }

@@ -2,8 +2,8 @@
 //! instructions, with every byte of remains, on both devices and over both kinds of register. It
 //! compares each reply of the depository with one that was worked out by hand from the rules.
 //!
-//! For each device and register it prints how many cases there were and how many differed, and before
-//! that a line for each reply that differs.
+//! For each device and register it prints how many cases there were and how many differed, and
+//! before that a line for each reply that differs.
 #![tactic(auto)]
 
 mod case;

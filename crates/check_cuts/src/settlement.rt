@@ -1,5 +1,5 @@
-// A settlement in eight instructions, of which the last three are cut. What stands after each of them
-// was worked out by hand from the rules.
+// A settlement in eight instructions, of which the last three are cut. What stands after each of
+// them was worked out by hand from the rules.
 use book::Holding;
 use depository::{Fact, Question, Reply};
 use instruction::{Instruction, Kind};

@@ -48,7 +48,7 @@ module _ (h : Rulebook) (pairs : ℕ) (few : pairs ≤ 32767) (t : Tally) (x : I
       let lt : length t.list < pairs = omega (arith, p.room, k.entry_count, k.room) in
       let run = more x k.runs p.accepted in
       let made = entry-made L v.medium v'.medium t.list x lt (read-back lt) (as-counted k a.medium)
-          (idle-journal n k) l in
+      (idle-journal n k) l in
       record {
         device = record {
           journal = subst (λ hand. Journal L v'.medium (t.list ++ (x ∷ [])) hand) (sym n) made;
@@ -69,8 +69,11 @@ module _ (h : Rulebook) (pairs : ℕ) (few : pairs ≤ 32767) (t : Tally) (x : I
         device = record {
           journal = entry-cut L v.medium v'.medium t.list x lt (read-back lt) (as-counted k a.medium)
               (idle-journal n k) l;
-          lawful = record { standing = v.standing; runs = k.runs;
-              next = λ y e. let q : x ≡ y = cc in subst (λ z. answer h v.standing z ≡ Ok tt) q p.accepted };
+          lawful = record {
+            standing = v.standing;
+            runs = k.runs;
+            next = λ y e. let q : x ≡ y = cc in subst (λ z. answer h v.standing z ≡ Ok tt) q p.accepted;
+          };
           size = omega (arith, a.medium.size, k.device.size);
         };
         runs = subst (λ s. Runs h t.list s) (sym a.standing) k.runs;
@@ -88,28 +91,31 @@ module _ (h : Rulebook) (pairs : ℕ) (few : pairs ≤ 32767) (t : Tally) (x : I
       → KeepsTallyBy h pairs t v l v.mode → KeepsTallyBy h pairs (after_instruct t x r) v' l v'.mode
   leads (Err f) w r ec ew same er k =
       let still : after_instruct t x r ≡ t = ap (after_instruct t x) er
-          ∙ ap (λ b. cond b (record { list = t.list; in_hand = Some x }) t) (checked-calm h x v f ec) in
+      ∙ ap (λ b. cond b (record { list = t.list; in_hand = Some x }) t) (checked-calm h x v f ec) in
       subst (λ u. KeepsTallyBy h pairs u v' l v'.mode) (sym still)
-          (subst (λ u. KeepsTallyBy h pairs t u l u.mode) (sym same) k)
+      (subst (λ u. KeepsTallyBy h pairs t u l u.mode) (sym same) k)
   leads (Ok u) (Ok w) r ec ew a er k =
       let p = let-pass (sym ec) in
       let i = idle p k in
-      let now : KeepsTallyBy h pairs (after_instruct t x (Ok tt)) v' l Open = (i.0, added p i.0 i.1
-          (enter-done v.medium v.entry_count ew) a) in
+      let now : KeepsTallyBy h pairs (after_instruct t x (Ok tt)) v' l Open = (
+        i.0,
+        added p i.0 i.1
+            (enter-done v.medium v.entry_count ew) a,
+      ) in
       subst (λ a. KeepsTallyBy h pairs (after_instruct t x a) v' l v'.mode) (sym er)
-          (subst (λ m. KeepsTallyBy h pairs (after_instruct t x (Ok tt)) v' l m) (sym a.mode) now)
+      (subst (λ m. KeepsTallyBy h pairs (after_instruct t x (Ok tt)) v' l m) (sym a.mode) now)
   leads (Ok u) (Err f) r ec ew a er k =
       let p = let-pass (sym ec) in
       let i = idle p k in
       let cut = enter-cut v.medium v.entry_count f ew in
       let is13-still : is13 (fault_about x (in_entry v.entry_count f)).refusal ≡ true = ap is13
-          (about-refusal-as (names_trade (kind_at x.kind)) (in_entry v.entry_count f) x.trade) ∙ cut.0 in
+      (about-refusal-as (names_trade (kind_at x.kind)) (in_entry v.entry_count f) x.trade) ∙ cut.0 in
       let in-hand-now : after_instruct t x r ≡ record { list = t.list; in_hand = Some x } = ap
-          (after_instruct t x) er ∙ ap (λ b. cond b (record { list = t.list; in_hand = Some x }) t) is13-still in
+      (after_instruct t x) er ∙ ap (λ b. cond b (record { list = t.list; in_hand = Some x }) t) is13-still in
       let now : KeepsTallyBy h pairs (record { list = t.list; in_hand = Some x }) v' l
-          (Down x) = (refl, in-hand p i.0 i.1 cut.1 a) in
+      (Down x) = (refl, in-hand p i.0 i.1 cut.1 a) in
       subst (λ u. KeepsTallyBy h pairs u v' l v'.mode) (sym in-hand-now)
-          (subst (λ m. KeepsTallyBy h pairs (record { list = t.list; in_hand = Some x }) v' l m) (sym a.mode) now)
+      (subst (λ m. KeepsTallyBy h pairs (record { list = t.list; in_hand = Some x }) v' l m) (sym a.mode) now)
 
   pub instructed : (r : Answer) → TakesInstruction h x v v' r → KeepsTallyBy h pairs t v l v.mode
       → KeepsTallyBy h pairs (after_instruct t x r) v' l v'.mode

@@ -30,8 +30,15 @@ use Rattle.depository.specs.Survival.{RunFromFormat}
 view-same : {v w : View} → v.mode ≡ w.mode → v.medium ≡ w.medium → v.standing ≡ w.standing → v.pairs ≡ w.pairs
     → v.found ≡ w.found → v.last_found ≡ w.last_found → v.entry_count ≡ w.entry_count → v ≡ w
 view-same mode medium standing pairs found last count =
-    λ i. record { mode = mode i; medium = medium i; standing = standing i; pairs = pairs i; found = found i;
-        last_found = last i; entry_count = count i }
+    λ i. record {
+      mode = mode i;
+      medium = medium i;
+      standing = standing i;
+      pairs = pairs i;
+      found = found i;
+      last_found = last i;
+      entry_count = count i;
+    }
 
 -- what an instruction leaves is fixed but for the device
 view-one : (c w : Answer) (x : Instruction) (v v₁ v₂ : View) → Leaves c w x v v₁ → Leaves c w x v v₂
@@ -39,10 +46,10 @@ view-one : (c w : Answer) (x : Instruction) (v v₁ v₂ : View) → Leaves c w 
 view-one (Err f) w x v v₁ v₂ one two e = one ∙ sym two
 view-one (Ok u) (Ok t) x v v₁ v₂ one two e =
     view-same (one.mode ∙ sym two.mode) e (one.standing ∙ sym two.standing) (one.pairs ∙ sym two.pairs)
-        (one.found ∙ sym two.found) (one.last_found ∙ sym two.last_found) (one.entry_count ∙ sym two.entry_count)
+    (one.found ∙ sym two.found) (one.last_found ∙ sym two.last_found) (one.entry_count ∙ sym two.entry_count)
 view-one (Ok u) (Err f) x v v₁ v₂ one two e =
     view-same (one.mode ∙ sym two.mode) e (one.standing ∙ sym two.standing) (one.pairs ∙ sym two.pairs)
-        (one.found ∙ sym two.found) (one.last_found ∙ sym two.last_found) (one.entry_count ∙ sym two.entry_count)
+    (one.found ∙ sym two.found) (one.last_found ∙ sym two.last_found) (one.entry_count ∙ sym two.entry_count)
 
 -- what a path's first device means
 starts-at : {D : Type 0} {makes : D → DeviceCall → D → Type 0} {means : D → Medium} {h : Rulebook} {most : ℕ}
@@ -81,11 +88,11 @@ module _ {D S : Type 0} (makes : D → DeviceCall → D → Type 0) (means : D �
     running-one v l (instruct_order x) one two k k' =
         let q = traced-fixed makes seen z.fixed (instruct_calls h x v) d d' e e' k k' s in
         let medium : one.after.medium ≡ two.after.medium = same-medium q
-            (t ∙ ap (λ n. medium_in n.phase) one.yields.moment)
-            (t' ∙ ap (λ n. medium_in n.phase) two.yields.moment) in
+        (t ∙ ap (λ n. medium_in n.phase) one.yields.moment)
+        (t' ∙ ap (λ n. medium_in n.phase) two.yields.moment) in
         let after = view-one (check_answer h x v)
-            (write_entry_answer v.medium v.entry_count) x v one.after two.after one.engine.after two.engine.after
-            medium in
+        (write_entry_answer v.medium v.entry_count) x v one.after two.after one.engine.after two.engine.after
+        medium in
         record {
           reply = one.yields.reply ∙ ap ToInstruct (one.engine.answer ∙ sym two.engine.answer) ∙ sym two.yields.reply;
           moment = one.yields.moment ∙ ap (λ w. moment_in (running w) l) after ∙ sym two.yields.moment;
@@ -106,7 +113,7 @@ module _ {D S : Type 0} (makes : D → DeviceCall → D → Type 0) (means : D �
     shut-one m books l (restart_order q remains) one two k k' =
         let p = z.fixed (restarting q remains) d d' e e' k k' s in
         let medium : one.after ≡ two.after = same-medium p (t ∙ ap (λ n. medium_in n.phase) one.yields.moment)
-            (t' ∙ ap (λ n. medium_in n.phase) two.yields.moment) in
+        (t' ∙ ap (λ n. medium_in n.phase) two.yields.moment) in
         record {
           reply = one.yields.reply ∙ sym two.yields.reply;
           moment = one.yields.moment ∙ ap (λ n. moment_in (shut n books) l) medium ∙ sym two.yields.moment;
@@ -141,9 +148,9 @@ module _ {D S : Type 0} (makes : D → DeviceCall → D → Type 0) (means : D �
       → RunFromFormat makes means h most pairs d' books cs rs' b' e' → rs ≡ rs'
   one-answer {pairs} {d} {d'} {books} {cs} {rs} {rs'} {b} {b'} {e} {e'} s one two =
       let calls : Medium → List DeviceCall = λ m. format_calls (header_bytes
-          (header_for_books h pairs)) pairs m.size m.calls_left in
+      (header_for_books h pairs)) pairs m.size m.calls_left in
       let also = subst (λ m. IsTrace makes (calls m) d' two.device) (sym (z.meaning d d' s)) two.format.trace in
       let q = traced-fixed makes seen z.fixed (calls (means d)) d d' one.device two.device one.format.trace also s in
       let start = subst (λ m. Path makes means h most (moment_in (shut m books) None) two.device cs rs' b' e')
-          (sym (z.meaning one.device two.device q)) two.path in
+      (sym (z.meaning one.device two.device q)) two.path in
       alike q one.path start

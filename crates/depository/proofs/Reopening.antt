@@ -76,8 +76,11 @@ module _ (h : Rulebook) (pairs : ℕ) (t : Tally) where
 
   -- the reply to the open that gave the engine v in the mode m
   abbrev answered : Mode → View → Option Contents → OpenReply
-  answered m v l = record { answer = opening_answer m; found = v.found;
-      slip_answer = slip_answer m v.found v.last_found l }
+  answered m v l = record {
+    answer = opening_answer m;
+    found = v.found;
+    slip_answer = slip_answer m v.found v.last_found l;
+  }
 
   -- The list ys that an opening found, answered 0, is that of the tally after it; and the slip is
   -- judged as the law says.
@@ -87,8 +90,11 @@ module _ (h : Rulebook) (pairs : ℕ) (t : Tally) where
 
   -- where no slip is owed, none is judged
   none-judged : (v : View) → JudgesLastSlip None (answered Open v None) v
-  none-judged v = record { no_slip = λ e. refl; judged = λ c e. absurd (nothing-is-some e);
-      zero_or_one = λ w e. absurd (nothing-is-some e) }
+  none-judged v = record {
+    no_slip = λ e. refl;
+    judged = λ c e. absurd (nothing-is-some e);
+    zero_or_one = λ w e. absurd (nothing-is-some e);
+  }
 
   abbrev IsUpheld : Result Verdict Refusal → Type 0
   IsUpheld p = (presented_number p ≡ 0) ⊎ (presented_number p ≡ 1)
@@ -99,8 +105,12 @@ module _ (h : Rulebook) (pairs : ℕ) (t : Tally) where
       → JudgesLastSlip (Some c) (answered Open v (Some c)) v
   is-judged c v w e j up = record {
     no_slip = λ e. absurd (nothing-is-some (sym e));
-    judged = λ b same. let q : c ≡ b = cc in (w, ap (λ u. Some (Ok u)) e, subst
-        (λ u. HasVerdict (Some u) v.found v.last_found w) q j);
+    judged = λ b same. let q : c ≡ b = cc in (
+      w,
+      ap (λ u. Some (Ok u)) e,
+      subst
+          (λ u. HasVerdict (Some u) v.found v.last_found w) q j,
+    );
     zero_or_one = λ p same. let q : Ok w ≡ p = cc (e, same) in subst IsUpheld q up;
   }
 
@@ -110,8 +120,10 @@ module _ (h : Rulebook) (pairs : ℕ) (t : Tally) where
   -- what was in hand was not found,
   agrees-without : (l : Option Contents) (v : View) (ys : List Instruction) → SlipMatches l t → v.found ≡ length ys
       → ys ≡ t.list → Agrees l v ys
-  agrees-without None v ys m found e = record { fed = λ i. record { list = sym e i; in_hand = None };
-      judged = none-judged v }
+  agrees-without None v ys m found e = record {
+    fed = λ i. record { list = sym e i; in_hand = None };
+    judged = none-judged v;
+  }
   agrees-without (Some c) v ys m found e =
       let n : v.found ≡ c.entries = found ∙ ap length e ∙ sym m.0 in
       let same = judged-same c v.found v.last_found n in
@@ -183,8 +195,8 @@ module _ (h : Rulebook) (pairs : ℕ) (t : Tally) where
   says-judged l v (Down x) s e = absurd s
   says-judged l v (Refused f) s e = absurd cc
 
-  says-refused : (l : Option Contents) (v : View) (m : Mode) → SaysOfOpening l v m → (f : Fault) → opening_answer m ≡ Err f
-      → number_of f.refusal ≡ 13
+  says-refused : (l : Option Contents) (v : View) (m : Mode) → SaysOfOpening l v m
+      → (f : Fault) → opening_answer m ≡ Err f → number_of f.refusal ≡ 13
   says-refused l v Open s f e = absurd cc
   says-refused l v (Down x) s f e = absurd s
   says-refused l v (Refused g) s f e = let q : g ≡ f = cc in subst (λ (u : Fault). number_of u.refusal ≡ 13) q s
@@ -196,5 +208,9 @@ module _ (h : Rulebook) (pairs : ℕ) (t : Tally) where
       let v = opening_view h m in
       let o = opens h pairs m t.list t.in_hand v p.some p.few k.size c₁ c₂ b k.journal k.lawful refl in
       let a = kept-as m l v v.mode k ml (omega (arith, o.same.size, k.size)) o.found in
-      record { kept = a.0; judged = says-judged l v v.mode a.1; refused = says-refused l v v.mode a.1;
-          prompt = λ low. ap opening_answer (o.prompt low) }
+      record {
+        kept = a.0;
+        judged = says-judged l v v.mode a.1;
+        refused = says-refused l v v.mode a.1;
+        prompt = λ low. ap opening_answer (o.prompt low);
+      }

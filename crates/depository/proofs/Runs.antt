@@ -46,22 +46,22 @@ module _ {D : Type 0} (makes : D → DeviceCall → D → Type 0) (means : D →
       {rs rs' : List Reply} → i < length cs → Path makes means h most a d (map order (take i cs)) rs m e
       → FitIn (order (get_or cs i none))
       → LeadsTo h most m (order (get_or cs i none)) r b → UsesDevice makes h m.phase (order (get_or cs i none)) e f
-          → means f ≡ medium_in b.phase → rs' ≡ rs ++ (r ∷ [])
-          → Path makes means h most a d (map order (take (i + 1) cs)) rs' b f
+      → means f ≡ medium_in b.phase → rs' ≡ rs ++ (r ∷ [])
+      → Path makes means h most a d (map order (take (i + 1) cs)) rs' b f
   next-call {a} {m} {b} {d} {e} {f} none cs i r {rs} {rs'} lt p fit s hd then is =
       subst (λ xs. Path makes means h most a d xs rs' b f) (sym (map_more order cs i none lt))
       (subst (λ ys. Path makes means h most a d (map order (take i cs) ++ (order (get_or cs i none) ∷ [])) ys b f)
-          (sym is) (one-more r p fit s hd then))
+      (sym is) (one-more r p fit s hd then))
 
   -- the same, by the order that this call is
   pub next-order : {a m b : Moment} {d e f : D} (none : Call) (cs : List Call) (i : ℕ) (o : Order) (r : Reply)
       {rs rs' : List Reply} → i < length cs → Path makes means h most a d (map order (take i cs)) rs m e
       → order (get_or cs i none) ≡ o → FitIn o → LeadsTo h most m o r b → UsesDevice makes h m.phase o e f
-          → means f ≡ medium_in b.phase → rs' ≡ rs ++ (r ∷ [])
-          → Path makes means h most a d (map order (take (i + 1) cs)) rs' b f
+      → means f ≡ medium_in b.phase → rs' ≡ rs ++ (r ∷ [])
+      → Path makes means h most a d (map order (take (i + 1) cs)) rs' b f
   next-order {a} {m} {b} {d} {e} {f} none cs i o r {rs} {rs'} lt p eo fit does hd then is =
       next-call none cs i r lt p (subst FitIn (sym eo) fit) (subst (λ q. LeadsTo h most m q r b) (sym eo) does)
-          (subst (λ q. UsesDevice makes h m.phase q e f) (sym eo) hd) then is
+      (subst (λ q. UsesDevice makes h m.phase q e f) (sym eo) hd) then is
 
   -- a question leaves the device
   pub asked-only : (a : Phase) (q : Question) (d : D) → UsesDevice makes h a (ask_order q) d d

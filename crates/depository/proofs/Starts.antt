@@ -50,9 +50,9 @@ module _ {D : Type 0} (makes : D → DeviceCall → D → Type 0) (means : D →
     (d e : D) (a b : ℕ) (ea : a ≡ (h.book_kind securities).code) (eb : b ≡ (h.book_kind cash).code)
     (r : Answer) (is : r ≡ format_answer pairs (means d))
     (after : no_room pairs (means d).size ≡ false
-        → Formats (header_bytes (format_header a b pairs)) pairs (means d) (means e))
+    → Formats (header_bytes (format_header a b pairs)) pairs (means d) (means e))
     (trace : IsTrace makes (format_calls (header_bytes (format_header a b pairs)) pairs (means d).size
-        (means d).calls_left) d e) where
+    (means d).calls_left) d e) where
   -- the calls of a format that has room
   abbrev made : ℕ → List DeviceCall
   made left = take (left + 1)

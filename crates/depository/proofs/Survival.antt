@@ -196,8 +196,11 @@ module _ (h : Rulebook) (most pairs : ℕ) (p : IsPairCount pairs) (c₁ : (h.bo
   tells t None k = record { no_slip = λ e. k; slip = λ c e. absurd cc }
   tells t (Some d) k = record {
     no_slip = λ e. absurd cc;
-    slip = λ c e. let same : d ≡ c = cc in (sym (ap (λ (z : Contents). z.entries) same) ∙ k.0, sym
-        (ap (λ (z : Contents). z.hand) same) ∙ k.1);
+    slip = λ c e. let same : d ≡ c = cc in (
+      sym (ap (λ (z : Contents). z.entries) same) ∙ k.0,
+      sym
+          (ap (λ (z : Contents). z.hand) same) ∙ k.1,
+    );
   }
 
   slip-in : (t : Tally) (last_slip : Option Contents) (a : Phase) (l : Option Contents) → KeepsTallyIn h pairs t a l
@@ -208,10 +211,15 @@ module _ (h : Rulebook) (most pairs : ℕ) (p : IsPairCount pairs) (c₁ : (h.bo
   -- the open that comes next: it is answered 0 if calls enough are left,
   well : (m : Medium) (l : Option Contents) (r : Reply) → opening_answer (opening_view h m).mode ≡ Ok tt
       → r ≡ reply_to_open (opening_view h m) l → IsOpenAccepted r
-  well m l r e is = (record
-      { answer = opening_answer (opening_view h m).mode; found = (opening_view h m).found;
-      slip_answer = slip_answer (opening_view h m).mode (opening_view h m).found (opening_view h m).last_found l },
-      is, e)
+  well m l r e is = (
+    record {
+      answer = opening_answer (opening_view h m).mode;
+      found = (opening_view h m).found;
+      slip_answer = slip_answer (opening_view h m).mode (opening_view h m).found (opening_view h m).last_found l;
+    },
+    is,
+    e,
+  )
 
   same-engine : {v w : View} → running v ≡ running w → v ≡ w
   same-engine e = cc
@@ -243,7 +251,7 @@ module _ (h : Rulebook) (most pairs : ℕ) (p : IsPairCount pairs) (c₁ : (h.bo
       → KeepsTally h pairs t (moment_in a l) → Owes last_slip a l → IsBounded (medium_in a)
       → (r : Reply) (z : Moment) → LeadsTo h most (moment_in a l) open_order r z
       → (o : OpenReply) → r ≡ ToOpen o → o.answer ≡ Ok tt → (v : View) → z.phase ≡ running v
-          → JudgesLastSlip last_slip o v
+      → JudgesLastSlip last_slip o v
   verdict t last_slip (running w) l k owes bounded r z d o is e v gives = absurd (no-misfit (sym is ∙ d.reply))
   verdict t last_slip (shut m books) l k owes bounded r z d o is e v gives =
       let same = same-reply (sym d.reply ∙ is) in
@@ -269,8 +277,8 @@ module _ (h : Rulebook) (most pairs : ℕ) (p : IsPairCount pairs) (c₁ : (h.bo
     kept-along t (no_calls {a = a} is) k = subst (λ u. KeepsTally h pairs u a) (sym (tally-none t [])) k
     kept-along t (first_call {a = a} {m = m} {b = b} {d = d} {c = c} {r = r} {cs = cs} {rs = rs} s q) k =
         subst (λ u. KeepsTally h pairs u b) (sym (tally-more t c r cs rs))
-            (kept-along (tally_after t c r) q (kept-next t a.phase a.owed c r m s.does s.fit
-            (bounded-in a.phase d s.means-it) k))
+        (kept-along (tally_after t c r) q (kept-next t a.phase a.owed c r m s.does s.fit
+        (bounded-in a.phase d s.means-it) k))
 
     module _ {a b : Moment} {d e : D} {cs : List Order} {rs : List Reply} (start : KeepsTally h pairs empty_tally a)
         (none : Owes None a.phase a.owed) (q : Path makes means h most a d cs rs b e) where

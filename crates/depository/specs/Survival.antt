@@ -37,10 +37,10 @@ use Rattle.depository.specs.CallTally.{Tally, tally}
 use Rattle.depository.specs.Paths.{Path, last_known_slip}
 
 -- How to read this file. `Survives`, near its end, is what the function `serve` promises:
--- `SurvivalLaw` holds of every run, that is, of any calls after a format, with any answers that they
--- can have. A cut of the power is a close and a restart among these calls. The law compares the
--- depository with its tally (specs/CallTally): a list of instructions, and what is in hand, which
--- follow from the calls and their answers alone. So whoever wrote those down knows what stands.
+-- `SurvivalLaw` holds of every run, that is, of any calls after a format, with any answers that
+-- they can have. A cut of the power is a close and a restart among these calls. The law compares
+-- the depository with its tally (specs/CallTally): a list of instructions, and what is in hand.
+-- Both follow from the calls and their answers alone, so whoever wrote those down knows what stands.
 
 -- calls that are enough to open any device: an open reads each block at most once
 abbrev pub enough_to_open : ℕ
@@ -88,8 +88,8 @@ pub record JudgesLastSlip (last_slip : Option Contents) (o : OpenReply) (engine 
   pub zero_or_one : (p : Result Verdict Refusal) → o.slip_answer ≡ Some p
       → (presented_number p ≡ 0) ⊎ (presented_number p ≡ 1)
 
--- Here `h` is the rules, for books of these two kinds; `most_calls` the most calls that a restart of
--- the device gives; and `pairs` the number of pairs of the journal.
+-- Here `h` is the rules, for books of these two kinds; `most_calls` the most calls that a restart
+-- of the device gives; and `pairs` the number of pairs of the journal.
 module _ (h : Rulebook) (most_calls pairs : ℕ) where
   -- The law at one moment of a run. `t` is the tally of the calls up to then. `last_slip` is what
   -- the last known slip tells that a close among them gave, or None if none did.
@@ -115,7 +115,8 @@ module _ (h : Rulebook) (most_calls pairs : ℕ) where
         → (r : Reply) (after : Moment) → LeadsTo h most_calls moment open_order r after
         → IsOpenAccepted r
     -- and an open that comes next and is answered 0 judges that slip: its verdict is 0 or 1.
-    pub next_verdict : (r : Reply) (after : Moment) → LeadsTo h most_calls moment open_order r after
+    pub next_verdict : (r : Reply) (after : Moment)
+        → LeadsTo h most_calls moment open_order r after
         → (o : OpenReply) → r ≡ ToOpen o → o.answer ≡ Ok tt
         → (engine : View) → after.phase ≡ running engine
         → JudgesLastSlip last_slip o engine
@@ -136,7 +137,7 @@ module _ (h : Rulebook) (most_calls pairs : ℕ) where
     -- opening was refused.
     pub journal : Journal (blocks_for_books h pairs) (medium_in moment.phase) t.list t.in_hand
 
--- Here `makes` is what the device's kind says of each of its calls, and `means` what a device means.
+-- Here `makes` is what the device's kind says of each device call, and `means` what a device means.
 module _ {D : Type 0} (makes : D → DeviceCall → D → Type 0) (means : D → Medium)
     (h : Rulebook) where
   -- A format of the device d is answered r, and leaves the device e.

@@ -14,8 +14,8 @@ loop-call-init g c =
     let a = moment_of c.args.self in
     let d = device_of c.args.self.condition in
     let start = subst (λ ys. Path g.D.Device.makes g.D.Device.medium
-        (rulebook_of g.R.Book.book_kind g.C.Book.book_kind) g.D.PoweredDevice.most_calls a d [] ys a d)
-        (sym c.requires.none) (no_calls (means-it c.args.self.condition)) in
+    (rulebook_of g.R.Book.book_kind g.C.Book.book_kind) g.D.PoweredDevice.most_calls a d [] ys a d)
+    (sym c.requires.none) (no_calls (means-it c.args.self.condition)) in
     (search rules, search rules, search rules, start)
 
 -- The call that is made is the next of the list, and its reply goes to the end of the replies.
@@ -50,7 +50,7 @@ loop-call-preserved g c =
           let e = w.restart-reply.ensures in
           let o : Order = restart_order w.in-Restart.calls_left w.in-Restart.remains.now in
           let next : get_or calls n unasked ≡ Restart w.in-Restart.calls_left w.in-Restart.remains = assumption
-              (w.in-Restart.is) in
+          (w.in-Restart.is) in
           let answered : new ≡ old ++ (w.restart-reply.result ∷ []) = rw w.reply-is at p.items in (
             search rules,
             search rules,
@@ -101,5 +101,5 @@ loop-call-preserved g c =
 pub returns-clause-path : goal.returns-clause-path
 returns-clause-path g c =
     assumption (all-calls g.D.Device.makes g.D.Device.medium
-        (rulebook_of g.R.Book.book_kind g.C.Book.book_kind) g.D.PoweredDevice.most_calls c.args.calls.now
-        c.loop-call.call-index c.loop-call-test.false c.loop-call.invariant.3)
+    (rulebook_of g.R.Book.book_kind g.C.Book.book_kind) g.D.PoweredDevice.most_calls c.args.calls.now
+    c.loop-call.call-index c.loop-call-test.false c.loop-call.invariant.3)
