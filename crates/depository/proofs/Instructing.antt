@@ -14,8 +14,8 @@ use Rattle.journal.proofs.Trips.{record-read}
 use Rattle.engine.specs.declared.engine.Mode.TheVariants.{Open, Down}
 use Rattle.engine.specs.View.{View}
 use Rattle.engine.specs.declared.slip.Contents.{Contents}
-use Rattle.engine.specs.Lasting.{blocks_for_books}
-use Rattle.engine.specs.Instructing.{check_answer, within_entry, Accepts, CutsOff, Leaves, TakesInstruction}
+use Rattle.engine.specs.StandingList.{blocks_for_books}
+use Rattle.engine.specs.Instructing.{check_answer, within_entry, Accepts, GoesDown, Leaves, TakesInstruction}
 use Rattle.engine.proofs.Instructs.{LetPass, let-pass}
 use Rattle.engine.proofs.Cuts.{is13, about-refusal-as, checked-calm, enter-cut, enter-done}
 use Rattle.depository.specs.CallTally.{Tally, after_instruct}
@@ -61,7 +61,7 @@ module _ (h : Rulebook) (pairs : ℕ) (few : pairs ≤ 32767) (t : Tally) (x : I
       }
 
   -- one that is cut short is in hand
-  in-hand : LetPass h x v → t.in_hand ≡ None → InEngine h pairs t v → v.medium.calls_left < 4 → CutsOff x v v'
+  in-hand : LetPass h x v → t.in_hand ≡ None → InEngine h pairs t v → v.medium.calls_left < 4 → GoesDown x v v'
       → InEngine h pairs (record { list = t.list; in_hand = Some x }) v'
   in-hand p n k l a =
       let lt : length t.list < pairs = omega (arith, p.room, k.entry_count, k.room) in

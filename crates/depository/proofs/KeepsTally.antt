@@ -7,7 +7,7 @@ use Rattle.engine.specs.declared.engine.Mode.{Mode}
 use Rattle.engine.specs.declared.engine.Mode.TheVariants.{Open, Down, Refused}
 use Rattle.engine.specs.declared.slip.Contents.{Contents}
 use Rattle.engine.specs.View.{View}
-use Rattle.engine.specs.Lasting.{blocks_for_books}
+use Rattle.engine.specs.StandingList.{blocks_for_books}
 use Rattle.engine.proofs.Keeping.{Lawful}
 use Rattle.depository.specs.Moments.{Phase, running, shut, Moment}
 use Rattle.depository.specs.CallTally.{Tally}

@@ -19,7 +19,7 @@ use Rattle.engine.specs.declared.slip.Contents.{Contents}
 use Rattle.engine.specs.View.{View}
 use Rattle.engine.specs.Asking.{opening_answer, contents_by_mode}
 use Rattle.engine.specs.Instructing.{check_answer, Leaves}
-use Rattle.engine.specs.Lasting.{standing_list, blocks_for_books}
+use Rattle.engine.specs.StandingList.{standing_list, blocks_for_books}
 use Rattle.engine.specs.Opening.{opening_view}
 use Rattle.engine.proofs.Openings.{listed-is}
 use Rattle.depository.specs.Orders.{Order, instruct_order, close_order, restart_order, open_order, ask_order}

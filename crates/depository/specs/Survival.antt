@@ -22,7 +22,7 @@ use Rattle.engine.specs.declared.slip.Verdict.{Verdict}
 use Rattle.engine.specs.ClosingSlip.{HasVerdict, presented_number}
 use Rattle.engine.specs.View.{View}
 use Rattle.engine.specs.Asking.{opening_answer}
-use Rattle.engine.specs.Lasting.{standing_list, blocks_for_books}
+use Rattle.engine.specs.StandingList.{standing_list, blocks_for_books}
 use Rattle.engine.specs.Opening.{header_for_books}
 use Rattle.depository.specs.Orders.{Order, open_order}
 use Rattle.depository.specs.declared.calls.Reply.{Reply}
