@@ -28,4 +28,5 @@ IsWholeTable rows =
 
 -- no item's total passes its limit
 abbrev pub WithinCeiling : List (List Holding) → Type 0
-WithinCeiling rows = (item : ℕ) → total (amounts rows) item ≤ limit balances_kind (amounts rows) item
+WithinCeiling rows =
+    (item : ℕ) → total (amounts rows) item ≤ limit balances_kind (amounts rows) item

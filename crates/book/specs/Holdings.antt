@@ -25,7 +25,7 @@ nothing = record { free = λ a i. 0; blocked = λ a i. 0 }
 abbrev pub limit : BookKind → Holdings → ℕ → ℕ
 limit k b i = k.ceiling
 
--- an item's amounts, free and blocked, over all accounts
+-- what all accounts have of an item, free and blocked together
 abbrev pub total : Holdings → ℕ → ℕ
 total b i = sum_below ACCOUNTS (λ a. b.free a i + b.blocked a i)
 
@@ -34,7 +34,7 @@ pub data Deed : Type 0 where
   no_change : Deed
   -- by account, item and quantity: to the free amount, from free to blocked, from blocked to free
   crediting blocking releasing : ℕ → ℕ → ℕ → Deed
-  -- by two accounts, item and quantity: from the blocked amount of the one to the free amount of the other
+  -- by two accounts, item and quantity: from the one's blocked amount to the other's free one
   moving : ℕ → ℕ → ℕ → ℕ → Deed
 
 -- the amounts f with q more, or less, of the item I for the account A

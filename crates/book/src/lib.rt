@@ -1,8 +1,8 @@
 //! A book of holdings as an interface: what each account has of each item, free and blocked.
 //!
-//! What keeps a book is proved against this meaning, and what uses a book is proved from it alone. The clauses
-//! `answer` and `after` of each call fix its answer, with the checks in their order, and the amounts that it
-//! leaves; `within_limit` promises that an item never totals more than its ceiling.
+//! What keeps a book is proved against this meaning, and what uses a book is proved from it alone.
+//! The clauses `answer` and `after` of each call fix its answer, with the checks in their order,
+//! and the amounts that it leaves; `within_limit` promises that no item passes its ceiling.
 #![tactic(auto)]
 
 ghost use Rattle.std.specs.Prelude.{◌≡◌, ℕ, ◌^◌, ◌<◌, ◌≤◌, ◌⊎◌};
@@ -47,9 +47,9 @@ pub fn covers(amount: u64, quantity: u64, short: Refusal) -> Result<(), Refusal>
 ///
 /// # Errors
 ///
-/// A call is refused with `NoAccount`, then `NoItem`, where the book has not the account or the item. A
-/// change is refused with `NoQuantity` if the quantity is 0, and then as its method says. A refused call
-/// leaves the book as it was.
+/// A call is refused with `NoAccount`, then `NoItem`, where the book has not the account or item.
+/// A change is refused with `NoQuantity` if the quantity is 0, and then as its method says. A
+/// refused call leaves the book as it was.
 pub trait Book {
     /// What each account has of each item.
     ghost holdings: { Self → Holdings };
@@ -63,18 +63,24 @@ pub trait Book {
 
     /// Adds to the free amount: `OverCeiling` if the item's total would pass its ceiling.
     fn credit(&mut self, account: u16, item: u16, quantity: u64) -> Result<(), Refusal>
-        ensures answer { result ≡ ruling book_kind (holdings self.old) (crediting account item quantity) }
-        ensures after { holdings self.new ≡ outcome book_kind (holdings self.old) (crediting account item quantity) };
+        ensures answer { result
+            ≡ ruling book_kind (holdings self.old) (crediting account item quantity) }
+        ensures after { holdings self.new
+            ≡ outcome book_kind (holdings self.old) (crediting account item quantity) };
 
     /// From free to blocked: `OverFree` if the account has less free.
     fn block(&mut self, account: u16, item: u16, quantity: u64) -> Result<(), Refusal>
-        ensures answer { result ≡ ruling book_kind (holdings self.old) (blocking account item quantity) }
-        ensures after { holdings self.new ≡ outcome book_kind (holdings self.old) (blocking account item quantity) };
+        ensures answer { result
+            ≡ ruling book_kind (holdings self.old) (blocking account item quantity) }
+        ensures after { holdings self.new
+            ≡ outcome book_kind (holdings self.old) (blocking account item quantity) };
 
     /// From blocked back to free: `OverBlocked` if the account has less blocked.
     fn release(&mut self, account: u16, item: u16, quantity: u64) -> Result<(), Refusal>
-        ensures answer { result ≡ ruling book_kind (holdings self.old) (releasing account item quantity) }
-        ensures after { holdings self.new ≡ outcome book_kind (holdings self.old) (releasing account item quantity) }
+        ensures answer { result
+            ≡ ruling book_kind (holdings self.old) (releasing account item quantity) }
+        ensures after { holdings self.new
+            ≡ outcome book_kind (holdings self.old) (releasing account item quantity) }
     {
         self.transfer(account, account, item, quantity)
     }
@@ -82,8 +88,10 @@ pub trait Book {
     /// From the blocked amount of `from` to the free amount of `to`, which may be the same account:
     /// `OverBlocked` if `from` has less blocked.
     fn transfer(&mut self, from: u16, to: u16, item: u16, quantity: u64) -> Result<(), Refusal>
-        ensures answer { result ≡ ruling book_kind (holdings self.old) (moving from to item quantity) }
-        ensures after { holdings self.new ≡ outcome book_kind (holdings self.old) (moving from to item quantity) };
+        ensures answer { result
+            ≡ ruling book_kind (holdings self.old) (moving from to item quantity) }
+        ensures after { holdings self.new
+            ≡ outcome book_kind (holdings self.old) (moving from to item quantity) };
 
     /// Free and blocked together.
     fn holding(&self, account: u16, item: u16) -> Result<Holding, Refusal>
@@ -169,14 +177,17 @@ pub trait Book {
     }
 
     /// No item totals more than its limit.
-    ghost within_limit: { (b : Self) (item : ℕ) → total (holdings b) item ≤ limit book_kind (holdings b) item };
+    ghost within_limit: { (b : Self) (item : ℕ)
+        → total (holdings b) item ≤ limit book_kind (holdings b) item };
 
     /// There is nothing of an account or an item that the book has not.
-    ghost nothing_outside: { (b : Self) (account item : ℕ) → (ACCOUNTS ≤ account) ⊎ (book_kind.items ≤ item)
+    ghost nothing_outside: { (b : Self) (account item : ℕ)
+        → (ACCOUNTS ≤ account) ⊎ (book_kind.items ≤ item)
         → ((holdings b).free account item ≡ 0) × ((holdings b).blocked account item ≡ 0) };
 
     /// The kind's numbers fit the types in which they are answered.
-    ghost kind_fits: { (book_kind.code < 2 ^ 8) × (book_kind.items < 2 ^ 16) × (book_kind.ceiling < 2 ^ 64) };
+    ghost kind_fits: { (book_kind.code < 2 ^ 8) × (book_kind.items < 2 ^ 16)
+        × (book_kind.ceiling < 2 ^ 64) };
 
     /// A book has some item, and room for some of it, so that no book may refuse everything.
     ghost kind_useful: { (0 < book_kind.items) × (0 < book_kind.ceiling) };

@@ -1,3 +1,3 @@
-pub mod Whole
+pub mod NoDash
 pub mod Keys
 pub mod Prints

@@ -1,4 +1,4 @@
--- The device and the books on which the program answers a script.
+-- What the program prints for a script: its device, its books, and the text of the key.
 use Rattle.std.specs.Prelude.{◌≡◌, ℕ, ◌<◌, ◌⊎◌, List, length, replicate}
 use Rattle.std.specs.List.{AllByRecursion}
 use Rattle.refusals.specs.Numbers.{numbered}
@@ -7,20 +7,33 @@ use Rattle.balances.specs.Rows.{balances_kind}
 use Rattle.rulebook.specs.Terms.{Side}
 use Rattle.rulebook.specs.Rules.{Rulebook}
 use Rattle.ledger.specs.View.{rulebook_of, both_sides}
+use Rattle.device.specs.declared.TheConstants.{MOST_CALLS}
 use Rattle.simulated.specs.declared.state.Simulated.{Simulated}
 use Rattle.simulated.specs.Meaning.{image_of, meaning, Makes}
-use Rattle.examination.specs.declared.answer.Answer.{Answer}
-use Rattle.examination.specs.Answers.{Whole}
-use Rattle.examination.specs.Key.{most_bytes, Keyed}
-use Rattle.examination.specs.Texts.{key_text, refused_text}
+use Rattle.examination.specs.declared.answer.LineAnswer.{LineAnswer}
+use Rattle.examination.specs.Answers.{HasNoDash}
+use Rattle.examination.specs.Key.{most_bytes, IsKeyOf}
+use Rattle.examination.specs.Texts.{key_text, refusal_text}
 
 unfoldable pub zero_bytes : ℕ → List ℕ
 zero_bytes n = replicate n 0
 
--- a simulated device over 127 blocks of zeros, with 1,000,000 calls
+-- the image of 127 blocks
+abbrev pub image_length : ℕ
+image_length = 65278
+
+-- the calls that the device has before its format
+abbrev pub first_calls : ℕ
+first_calls = 1000000
+
+-- a header, and these pairs of record and mark, fill the 127 blocks
+abbrev pub pair_count : ℕ
+pair_count = 63
+
+-- a simulated device over zeros
 pub record IsNew (d : Simulated) : Type 0 where
-  pub image : image_of d ≡ zero_bytes 65278
-  pub calls : d.rows.calls_left ≡ 1000000
+  pub image : image_of d ≡ zero_bytes image_length
+  pub calls : d.rows.calls_left ≡ first_calls
 
 -- two books of balances
 abbrev pub two_balances : Rulebook
@@ -30,23 +43,22 @@ two_balances = rulebook_of balances_kind balances_kind
 abbrev pub no_holdings : Side → Holdings
 no_holdings = both_sides nothing nothing
 
--- a key of a script on such a device, formatted with 63 pairs for these books, which a restart gives
--- up to 4,294,967,295 calls
-pub record IsKey (script text : List ℕ) : Type 0 where
+-- the text of the key of a script, over such a device and such books
+pub record IsKeyText (script text : List ℕ) : Type 0 where
   pub device : Simulated
-  pub new : IsNew device
-  pub answers : List Answer
-  pub keyed : Keyed Makes meaning two_balances 4294967295 63 device no_holdings script answers
-  -- no dash stands in it
-  pub whole : AllByRecursion Whole answers
-  pub is : text ≡ key_text 1 answers
+  pub is_new : IsNew device
+  pub answers : List LineAnswer
+  pub is_key : IsKeyOf Makes meaning two_balances MOST_CALLS pair_count device no_holdings
+      script answers
+  pub no_dash : AllByRecursion HasNoDash answers
+  pub is_text : text ≡ key_text 1 answers
 
--- What is printed for a script: the text of its key; or line 0 alone, where it is too long.
-abbrev pub Printed : List ℕ → List ℕ → Type 0
-Printed script text =
-    IsKey script text ⊎ ((most_bytes < length script) × (text ≡ refused_text (numbered 73)))
+-- what is printed for a script: the text of its key; or line 0 alone, where it is too long
+abbrev pub IsPrinted : List ℕ → List ℕ → Type 0
+IsPrinted script text =
+    IsKeyText script text ⊎ ((most_bytes < length script) × (text ≡ refusal_text (numbered 73)))
 
--- A script has one key and no more: no other text could be printed for it.
-pub record OneKey : Type 0 where
+-- A script has one key: no other text could be printed for it.
+pub record KeysAreUnique : Type 0 where
   pub one : (script text other : List ℕ)
-      → Printed script text → Printed script other → text ≡ other
+      → IsPrinted script text → IsPrinted script other → text ≡ other

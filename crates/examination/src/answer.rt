@@ -1,4 +1,5 @@
-// What one line is answered.
+//! What one line is answered.
+
 ghost use Rattle.std.specs.Prelude.{◌≡◌};
 ghost use Rattle.examination.specs.Answers.{answer_of, reopening_of};
 
@@ -7,12 +8,15 @@ use depository::{Fact, OpenReply, Reply};
 use engine::Verdict;
 use refusals::Refusal;
 
-// What an opening and the last slip answered, of which a key tells no fault but its number.
-#[derive(Clone, Copy)]
+/// What a key says of the opening after a cut.
+#[derive(Clone, Copy, Debug, PartialEq, Eq)]
 pub struct Reopening {
+    /// What the opening was answered.
     pub answer: Result<(), Refusal>,
+    /// The number of entries that it found, 0 where it was refused.
     pub found: u32,
-    pub presented: Option<Result<Verdict, Refusal>>,
+    /// What the last slip that is not unknown was answered, if there is one.
+    pub slip_answer: Option<Result<Verdict, Refusal>>,
 }
 
 impl From<OpenReply> for Reopening {
@@ -22,35 +26,37 @@ impl From<OpenReply> for Reopening {
         Reopening {
             answer: opened.answer.map_err(|fault| fault.refusal),
             found: opened.found,
-            presented: opened.slip_answer,
+            slip_answer: opened.slip_answer,
         }
     }
 }
 
-#[derive(Clone, Copy)]
-pub enum Answer {
-    // an instruction was accepted
+/// The answer to one line.
+#[derive(Clone, Copy, Debug, PartialEq, Eq)]
+pub enum LineAnswer {
+    /// An instruction was accepted.
     Accepted,
-    // what a question asks for
+    /// The amounts that a question asks for.
     Amounts(Holding),
-    // after a cut
+    /// What came of a cut.
     Reopened(Reopening),
+    /// The line, its instruction or its question was refused.
     Refused(Refusal),
-    // what no line asks for: a call that did not fit, or a fact of another kind
+    /// What no line asks for: a call that did not fit, or a fact of another kind.
     Unasked,
 }
 
-impl From<Reply> for Answer {
+impl From<Reply> for LineAnswer {
     ghost from_gives = { λ reply answer. answer ≡ answer_of reply };
 
-    fn from(reply: Reply) -> Answer {
+    fn from(reply: Reply) -> LineAnswer {
         match reply {
-            Reply::Done | Reply::ToInstruct(Ok(())) => Answer::Accepted,
-            Reply::ToInstruct(Err(fault)) => Answer::Refused(fault.refusal),
-            Reply::ToOpen(opened) => Answer::Reopened(opened.into()),
-            Reply::ToAsk(Ok(Fact::Holding(held))) => Answer::Amounts(held),
-            Reply::ToAsk(Ok(_)) | Reply::Misfit => Answer::Unasked,
-            Reply::ToAsk(Err(refusal)) => Answer::Refused(refusal),
+            Reply::Done | Reply::ToInstruct(Ok(())) => LineAnswer::Accepted,
+            Reply::ToInstruct(Err(fault)) => LineAnswer::Refused(fault.refusal),
+            Reply::ToOpen(opened) => LineAnswer::Reopened(opened.into()),
+            Reply::ToAsk(Ok(Fact::Holding(holding))) => LineAnswer::Amounts(holding),
+            Reply::ToAsk(Ok(_)) | Reply::Misfit => LineAnswer::Unasked,
+            Reply::ToAsk(Err(refusal)) => LineAnswer::Refused(refusal),
         }
     }
 }

@@ -1,8 +1,9 @@
-// The examination that the program holds: the device and the books of each script.
+//! The examination that the program holds: the device and the books that each script gets.
+
 ghost use Rattle.std.specs.Prelude.{◌≡◌, IfOk, string_bytes};
 ghost use Rattle.book.specs.Holdings.{nothing};
 ghost use Rattle.balances.specs.Meaning.{meaning};
-ghost use Rattle.examination.specs.Program.{zero_bytes, IsNew, Printed, OneKey};
+ghost use Rattle.examination.specs.Program.{zero_bytes, IsNew, IsPrinted, KeysAreUnique};
 
 use crate::text::{key_text, refusal_text};
 use crate::{Stop, answer_script};
@@ -10,12 +11,13 @@ use balances::Balances;
 use simulated::Simulated;
 use std::alloc::{AllocError, Global};
 
-// 127 blocks of 514 bytes: a header's, and a record's and a mark's for each pair.
-const IMAGE: usize = 65278;
+// The bytes of the image: 127 blocks of 514 bytes each.
+const IMAGE_LENGTH: usize = 65278;
 
+// The pairs of record and mark, which with the header fill the blocks.
 const PAIRS: u32 = 63;
 
-// The calls that the device has left before its format.
+// The calls that the device has before its format.
 const CALLS: u32 = 1_000_000;
 
 fn zero_bytes(heap: Global, count: usize) -> Result<Vec<u8>, AllocError>
@@ -27,23 +29,27 @@ fn zero_bytes(heap: Global, count: usize) -> Result<Vec<u8>, AllocError>
 fn new_device(heap: Global) -> Result<Simulated, AllocError>
     ensures { IfOk result (λ d. IsNew d) }
 {
-    let image = zero_bytes(heap, IMAGE)?;
+    let image = zero_bytes(heap, IMAGE_LENGTH)?;
     Ok(Simulated::new(image, CALLS))
 }
 
-// In a box, since a depository moves its books with each cut.
+// In a box, since each cut moves the books.
 fn new_book(heap: Global) -> Result<Box<Balances>, AllocError>
     ensures { IfOk result (λ b. meaning b.value ≡ nothing) }
 {
     Ok(Box::new(heap, Balances::new())?)
 }
 
-// Answers a script on a new device and with new books, and gives what is to be printed: the whole key,
-// or line 0 where the script is too long. The format of this device is never refused.
-#[tactic(auto, using(crate::proofs::Prints::one_key))]
+/// Answers a script on a new device and with new books, and gives what is to be printed: the whole
+/// key, or line 0 where the script is too long.
+///
+/// # Errors
+///
+/// `AllocError` where memory runs out. Then nothing is to be printed.
+#[tactic(auto, using(crate::proofs::Prints::keys_are_unique))]
 pub fn examine(heap: Global, script: &[u8]) -> Result<String, AllocError>
-    ensures text { IfOk result (λ text. Printed script.now (string_bytes text)) }
-    ensures one { OneKey }
+    ensures text { IfOk result (λ text. IsPrinted script.now (string_bytes text)) }
+    ensures one { KeysAreUnique }
 {
     let device = new_device(heap)?;
     let register = new_book(heap)?;

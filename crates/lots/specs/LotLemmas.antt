@@ -31,7 +31,8 @@ count-le Unowned = omega arith
 count-le (Free owner) = omega arith
 count-le (Blocked owner) = omega arith
 
-stranger : (owner a : ℕ) → nat_lt owner ACCOUNTS ≡ true → ACCOUNTS ≤ a → amount_if (owner == a) 1 ≡ 0
+stranger : (owner a : ℕ) → nat_lt owner ACCOUNTS ≡ true → ACCOUNTS ≤ a
+    → amount_if (owner == a) 1 ≡ 0
 stranger owner a e l =
     let m = ltb-true owner ACCOUNTS e in
     ap (λ t. amount_if t 1) (ne_eqb owner a (λ w. omega arith))
@@ -41,7 +42,8 @@ free-stranger Unowned a e l = refl
 free-stranger (Free owner) a e l = stranger owner a e l
 free-stranger (Blocked owner) a e l = refl
 
-pub blocked-stranger : (l : Lot) (a : ℕ) → owner_is_account l ≡ true → ACCOUNTS ≤ a → blocked_of l a ≡ 0
+pub blocked-stranger : (l : Lot) (a : ℕ) → owner_is_account l ≡ true → ACCOUNTS ≤ a
+    → blocked_of l a ≡ 0
 blocked-stranger Unowned a e l = refl
 blocked-stranger (Free owner) a e l = refl
 blocked-stranger (Blocked owner) a e l = stranger owner a e l

@@ -1,4 +1,4 @@
--- Lemmas on a table of lots: no item totals more than one lot, and there is nothing outside the table.
+-- Lemmas on a table of lots: an item totals one lot at most, and nothing is outside the table.
 use Rattle.std.specs.Prelude.{◌≡◌, ℕ, ◌≤◌, ◌⊎◌, List}
 use Rattle.std.proofs.Common.{ap, ⊎_elim, arith}
 use Rattle.std.proofs.lemmas.List.{get_or_past}

@@ -6,8 +6,8 @@ use Rattle.std.specs.Str.Parse.{ParsesUnsigned}
 use Rattle.std.proofs.lemmas.Str.{IsUtf8-from_ascii}
 use Rattle.std.proofs.lemmas.Str.Parse.{IsNumeralModel, numerals_by_fold, parse_plain}
 use Rattle.std.proofs.lemmas.Fmt.{IsAscii-decimal, parse-decimal, decimal_injective, decimal-digits_value, digits_decimal, digits_value-decimal, decimal_nonempty, first_decimal, decimal_digit}
-use Rattle.script.specs.Numerals.{numeral_from, numeral, ReadsNumber}
-use Rattle.script.specs.Requests.{then}
+use Rattle.script.specs.Numerals.{largest_in, numeral_from, numeral, ReadsNumber}
+use Rattle.script.specs.Requests.{and_then}
 
 -- the digits of a text, and the number that they write after those of n
 abbrev pub read_on : ℕ → List ℕ → ℕ
@@ -26,22 +26,26 @@ read_on-ge n [] = omega arith
 read_on-ge n (c ∷ cs) = omega (arith, read_on-ge (n * 10 + (c - 48)) cs)
 
 -- what a numeral is, from its parts
-from-sound : (most n m : ℕ) (cs : List ℕ) → n ≤ most → numeral_from most n cs ≡ Some m → AllDigits cs × (read_on n cs ≡ m) × (m ≤ most)
+from-sound : (most n m : ℕ) (cs : List ℕ) → n ≤ most → numeral_from most n cs ≡ Some m
+    → AllDigits cs × (read_on n cs ≡ m) × (m ≤ most)
 from-sound most n m [] h e = search rules
 from-sound most n m (c ∷ cs) h e = search (rules, from-sound most (n * 10 + (c - 48)) m cs)
 
-from-complete : (most n : ℕ) (cs : List ℕ) → AllDigits cs → read_on n cs ≤ most → numeral_from most n cs ≡ Some (read_on n cs)
+from-complete : (most n : ℕ) (cs : List ℕ) → AllDigits cs → read_on n cs ≤ most
+    → numeral_from most n cs ≡ Some (read_on n cs)
 from-complete most n [] d h = refl
 from-complete most n (c ∷ cs) d h =
     let g = read_on-ge (n * 10 + (c - 48)) cs in search (rules, from-complete most (n * 10 + (c - 48)) cs)
 
-start : (most : ℕ) (ds : List ℕ) → 0 < length ds → (1 < length ds → get_or ds 0 0 ≡ 48 → ⊥) → numeral_from most 0 ds ≡ numeral most ds
+start : (most : ℕ) (ds : List ℕ) → 0 < length ds → (1 < length ds → get_or ds 0 0 ≡ 48 → ⊥)
+    → numeral_from most 0 ds ≡ numeral most ds
 start most ds h z = search rules
 
 no-zero : (ds : List ℕ) (n : ℕ) → n < 2 ^ 64 → ds ≡ decimal n → 1 < length ds → get_or ds 0 0 ≡ 48 → ⊥
 no-zero ds n h e l z = search (rules, decimal_digit n, first_decimal n)
 
-numeral-parts : (most n : ℕ) (ds : List ℕ) → numeral most ds ≡ Some n → (0 < length ds) × (get_or ds 0 0 ≡ 48 → length ds ≡ 1) × (numeral_from most 0 ds ≡ Some n)
+numeral-parts : (most n : ℕ) (ds : List ℕ) → numeral most ds ≡ Some n
+    → (0 < length ds) × (get_or ds 0 0 ≡ 48 → length ds ≡ 1) × (numeral_from most 0 ds ≡ Some n)
 numeral-parts most n ds e = search rules
 
 pub sound : (most n : ℕ) (bs : List ℕ) → most < 2 ^ 64 → numeral most bs ≡ Some n → (bs ≡ decimal n) × (n ≤ most)
@@ -67,29 +71,34 @@ reads-number most bs r h e =
 no-other : {X : Type 0} (o : Option X) → ((x : X) → o ≡ Some x → ⊥) → None ≡ o
 no-other o h = search rules
 
-pub numeral-only : (most : ℕ) (bs : List ℕ) (r : Option ℕ) → most < 2 ^ 64 → ReadsNumber most bs r → r ≡ numeral most bs
+pub numeral-only : (most : ℕ) (bs : List ℕ) (r : Option ℕ) → most < 2 ^ 64 → ReadsNumber most bs r
+    → r ≡ numeral most bs
 numeral-only most bs (Some n) h e = sym (ap (numeral most) e.0 ∙ complete most n h e.1)
 numeral-only most bs None h e = no-other (numeral most bs) (λ n z. let p = sound most n bs h z in e n p.1 p.0)
 
 -- a smaller limit
-reads-below : (most : ℕ) (bs : List ℕ) (o : Option ℕ) → most < 2 ^ 64 → ReadsNumber 18446744073709551615 bs o → ReadsNumber most bs (then o (λ n. then_some (leb n most) n))
+reads-below : (most : ℕ) (bs : List ℕ) (o : Option ℕ) → most < 2 ^ 64 → ReadsNumber (largest_in 8) bs o
+    → ReadsNumber most bs (and_then o (λ n. then_some (leb n most) n))
 reads-below most bs o h e = search (rules, decimal_injective)
 
-pub number-below : (most : ℕ) (bs : List ℕ) → most < 2 ^ 64 → ReadsNumber most bs (then (numeral 18446744073709551615 bs) (λ n. then_some (leb n most) n))
-number-below most bs h = reads-below most bs _ h (reads-number 18446744073709551615 bs _ (lit< tt) refl)
+pub number-below : (most : ℕ) (bs : List ℕ) → most < 2 ^ 64
+    → ReadsNumber most bs (and_then (numeral (largest_in 8) bs) (λ n. then_some (leb n most) n))
+number-below most bs h = reads-below most bs _ h (reads-number (largest_in 8) bs _ (lit< tt) refl)
 
-pub numeral-below : (most : ℕ) (bs : List ℕ) → most < 2 ^ 64 → then (numeral 18446744073709551615 bs) (λ n. then_some (leb n most) n) ≡ numeral most bs
+pub numeral-below : (most : ℕ) (bs : List ℕ) → most < 2 ^ 64
+    → and_then (numeral (largest_in 8) bs) (λ n. then_some (leb n most) n) ≡ numeral most bs
 numeral-below most bs h = numeral-only most bs _ h (number-below most bs h)
 
 -- a first digit that is not zero, or zero alone
 abbrev pub Plain : List ℕ → Type 0
 Plain bs = (0 < length bs) × (48 ≤ get_or bs 0 0) × (get_or bs 0 0 ≤ 57) × (get_or bs 0 0 ≡ 48 → length bs ≡ 1)
 
-pub parsed : {E : Type 0} (bs : List ℕ) (r : Result ℕ E) → Plain bs → ParsesUnsigned 64 10 bs r → ReadsNumber 18446744073709551615 bs (result_ok r)
+pub parsed : {E : Type 0} (bs : List ℕ) (r : Result ℕ E) → Plain bs → ParsesUnsigned 64 10 bs r
+    → ReadsNumber (largest_in 8) bs (result_ok r)
 parsed {E} bs (Ok n) p h =
     let q = parse_plain own {E = E} 64 bs (Ok n) h (λ e. omega (arith, p.1)) in
     (sym (ap decimal q.1 ∙ decimal-digits_value own bs q.0.0 p.0 p.3 q.0.2), omega (arith, q.0.2, q.1))
 parsed bs (Err e) p h = λ n l d. absurd (let z = parse-decimal 64 n bs (Err e) (omega arith) (omega arith) d h in cc)
 
-pub no-text : (bs : List ℕ) → (IsUtf8 bs → ⊥) → ReadsNumber 18446744073709551615 bs None
+pub no-text : (bs : List ℕ) → (IsUtf8 bs → ⊥) → ReadsNumber (largest_in 8) bs None
 no-text bs h = λ n l d. h (IsUtf8-from_ascii bs (subst IsAscii (sym d) (IsAscii-decimal n (omega arith))))

@@ -1,16 +1,20 @@
--- A line is read as the one well-formed request that it is the text of. Assumes nothing.
-use Rattle.std.proofs.Common.{◌≡◌, ℕ, suc, ◌^◌, ◌<◌, Bool, true, false, cond, eqb, List, [], ◌∷◌, get_or, Some, None, Option, sym, refl, ap, ◌∙◌, subst, rules}
+-- A line is read as the request that it is the text of, by the law over lines.
+use Rattle.std.proofs.Common.{◌≡◌, ℕ, suc, ◌^◌, ◌<◌, Bool, true, false, cond, eqb, List, [], ◌∷◌, map, get_or, Some, None, Option, sym, refl, ap, ◌∙◌, subst, rules}
 use Rattle.std.specs.List.{AllByRecursion}
+use Rattle.std.specs.Option.{ok_or}
 use Rattle.std.proofs.lemmas.Bool.{eqb-true}
+use Rattle.refusals.specs.Numbers.{numbered}
 use Rattle.instruction.specs.declared.Kind.{Kind}
 use Rattle.instruction.specs.declared.Instruction.{Instruction}
-use Rattle.instruction.specs.Kinds.{code_of, kind_at}
+use Rattle.instruction.specs.Fields.{most_of, fields_of, instruction_with}
 use Rattle.instruction.specs.Layout.{Fit}
 use Rattle.script.specs.declared.Position.{Position}
 use Rattle.script.specs.declared.Request.{Request}
 use Rattle.script.specs.declared.Request.TheVariants.{Instruct, Register, Cash, Cut}
-use Rattle.script.specs.Words.{is_letter, Word, letter, first_word, after}
-use Rattle.script.specs.Requests.{then, fields_of, widths, filled, instruction_of, position_of, cut_of, letter_of, kind_for, request_for, request_after, request_of, listed, request_in, used, unused, fields_text, text_as, position_text, cut_text, written, WellFormed, ReadsLine}
+use Rattle.script.specs.Words.{is_letter, Word, letter, first_word, after_word}
+use Rattle.script.specs.Numerals.{largest_in}
+use Rattle.script.specs.Requests.{and_then, numbers_in, instruction_of, position_of, cut_of, kind_for, request_for, request_after, request_of, request_in}
+use Rattle.script.specs.LineLaw.{numbers_text, letter_of, byte_of, written_fields, omitted_fields, IsInstructionText, IsQuestionText, IsTextOf, ReadsLine}
 use Rattle.script.proofs.Fields.{Seen, seen, first-letter, Within, fields-sound, fields-complete, within-at, then-some}
 use Rattle.script.proofs.Cuts.{cut-sound, cut-complete}
 
@@ -30,128 +34,156 @@ picked-own (m ∷ ms) [] w = absurd w
 picked-own (m ∷ ms) (n ∷ ns) w = ap (λ l. n ∷ l) (picked-later 0 n ms ns ∙ picked-own ms ns w.1)
 
 -- the limits of each kind, and its instructions filled with numbers
-narrow-pair : AllByRecursion (λ m. m < 2 ^ 64) (65535 ∷ 65535 ∷ [])
+abbrev limits : Kind → List ℕ
+limits k = map most_of (fields_of k)
+
+narrow-pair : AllByRecursion (λ m. m < 2 ^ 64) (largest_in 2 ∷ largest_in 2 ∷ [])
 narrow-pair = search rules
 
-narrow : (k : Kind) → AllByRecursion (λ m. m < 2 ^ 64) (widths k)
+narrow : (k : Kind) → AllByRecursion (λ m. m < 2 ^ 64) (limits k)
 narrow k = search rules
 
-used-filled : (k : Kind) (ns : List ℕ) → Within ns (widths k) → used k (filled k ns) ≡ ns
-used-filled k ns w = search (rules, picked-own (widths k) ns w)
+used-filled : (k : Kind) (ns : List ℕ) → Within ns (limits k) → written_fields k (instruction_with k ns) ≡ ns
+used-filled k ns w = search (rules, picked-own (limits k) ns w)
 
-filled-code : (k : Kind) (ns : List ℕ) → (filled k ns).kind ≡ code_of k
+filled-code : (k : Kind) (ns : List ℕ) → (instruction_with k ns).kind ≡ byte_of k
 filled-code k ns = search rules
 
 abbrev Zeros : List ℕ → Type 0
 Zeros ns = AllByRecursion (λ n. n ≡ 0) ns
 
-filled-zeros : (k : Kind) (ns : List ℕ) → Zeros (unused k (filled k ns))
+filled-zeros : (k : Kind) (ns : List ℕ) → Zeros (omitted_fields k (instruction_with k ns))
 filled-zeros k ns = search rules
 
-filled-own : (k : Kind) (i : Instruction) → i.kind ≡ code_of k → Zeros (unused k i) → i ≡ filled k (used k i)
+filled-own : (k : Kind) (i : Instruction) → i.kind ≡ byte_of k → Zeros (omitted_fields k i)
+    → i ≡ instruction_with k (written_fields k i)
 filled-own k i e z = search rules
 
-fits : (k : Kind) (i : Instruction) → i.kind ≡ code_of k → Zeros (unused k i) → Within (used k i) (widths k) → Fit i
+fits : (k : Kind) (i : Instruction) → i.kind ≡ byte_of k → Zeros (omitted_fields k i)
+    → Within (written_fields k i) (limits k) → Fit i
 fits k i e z w = search rules
 
-used-within : (k : Kind) (i : Instruction) → Fit i → Within (used k i) (widths k)
+used-within : (k : Kind) (i : Instruction) → Fit i → Within (written_fields k i) (limits k)
 used-within k i f = search rules
 
-kind-own : (k : Kind) → kind_at (code_of k) ≡ Some k
-kind-own k = search rules
-
--- the text of an instruction of a kind
-text-of : (k : Kind) (i : Instruction) → i.kind ≡ code_of k → written (Instruct i) ≡ letter_of k ∷ fields_text (used k i)
-text-of k i e = ap (λ n. text_as (kind_at n) i) e ∙ ap (λ o. text_as o i) (kind-own k)
-
--- what is read is well-formed, and the line is its text
-abbrev Good : List ℕ → Request → Type 0
-Good bs q = WellFormed q × (written q ≡ bs)
-
-filled-good : (k : Kind) (ns : List ℕ) → Within ns (widths k) → Good (letter_of k ∷ fields_text ns) (Instruct (filled k ns))
+-- what is read has the line as its text
+filled-good : (k : Kind) (ns : List ℕ) → Within ns (limits k)
+    → IsInstructionText (instruction_with k ns) (letter_of k ∷ numbers_text ns)
 filled-good k ns w =
-    let code = filled-code k ns in
+    let byte = filled-code k ns in
     let zeros = filled-zeros k ns in
-    let own = used-filled k ns w in (
-      record { which = k; code = code; zeros = zeros; fit = fits k (filled k ns) code zeros (subst (λ l. Within l (widths k)) (sym own) w) },
-      text-of k (filled k ns) code ∙ ap (λ l. letter_of k ∷ fields_text l) own,
-    )
+    let own = used-filled k ns w in
+    record {
+      kind = k;
+      byte = byte;
+      zeros = zeros;
+      fit = fits k (instruction_with k ns) byte zeros (subst (λ l. Within l (limits k)) (sym own) w);
+      text = ap (λ l. letter_of k ∷ numbers_text l) (sym own);
+    }
 
 abbrev pair : List ℕ → Position
 pair ns = record { account = get_or ns 0 0; item = get_or ns 1 0 }
 
-abbrev Short : Position → Type 0
-Short p = (p.account < 2 ^ 16) × (p.item < 2 ^ 16)
-
-pair-good : (c : ℕ) (ns : List ℕ) → Within ns (65535 ∷ 65535 ∷ []) → Short (pair ns) × (c ∷ position_text (pair ns) ≡ c ∷ fields_text ns)
+pair-good : (c : ℕ) (ns : List ℕ) → Within ns (largest_in 2 ∷ largest_in 2 ∷ [])
+    → IsQuestionText c (pair ns) (c ∷ numbers_text ns)
 pair-good c ns w =
-    let at = within-at ns (65535 ∷ 65535 ∷ []) in
-    (search (rules, at 0 w, at 1 w), ap (λ l. c ∷ fields_text l) (picked-own (65535 ∷ 65535 ∷ []) ns w))
+    let at = within-at ns (largest_in 2 ∷ largest_in 2 ∷ []) in
+    record {
+      account = search (rules, at 0 w);
+      item = search (rules, at 1 w);
+      text = ap (λ l. c ∷ numbers_text l) (sym (picked-own (largest_in 2 ∷ largest_in 2 ∷ []) ns w));
+    }
 
 -- a request made of the numbers of fields
 made : {X : Type 0} (c : ℕ) (ms bs : List ℕ) (f : List ℕ → X) (make : X → Request) (q : Request) (o : Option (List ℕ))
-    → ((ns : List ℕ) → o ≡ Some ns → (bs ≡ fields_text ns) × Within ns ms) → ((ns : List ℕ) → Within ns ms → Good (c ∷ fields_text ns) (make (f ns)))
-    → then (then o (λ ns. Some (f ns))) (λ x. Some (make x)) ≡ Some q → Good (c ∷ bs) q
+    → ((ns : List ℕ) → o ≡ Some ns → (bs ≡ numbers_text ns) × Within ns ms)
+        → ((ns : List ℕ) → Within ns ms → IsTextOf (make (f ns)) (c ∷ numbers_text ns))
+    → and_then (and_then o (λ ns. Some (f ns))) (λ x. Some (make x)) ≡ Some q → IsTextOf q (c ∷ bs)
 made c ms bs f make q (Some ns) s h e =
     let p = s ns refl in
     let z : make (f ns) ≡ q = cc in
-    subst (Good (c ∷ bs)) z (subst (λ l. Good (c ∷ l) (make (f ns))) (sym p.0) (h ns p.1))
+    subst (λ r. IsTextOf r (c ∷ bs)) z (subst (λ l. IsTextOf (make (f ns)) (c ∷ l)) (sym p.0) (h ns p.1))
 made c ms bs f make q None s h e = absurd cc
 
-cut-good : (bs : List ℕ) (q : Request) → then (cut_of bs) (λ x. Some (Cut x)) ≡ Some q → Good (67 ∷ bs) q
+cut-good : (bs : List ℕ) (q : Request) → and_then (cut_of bs) (λ x. Some (Cut x)) ≡ Some q → IsTextOf q (67 ∷ bs)
 cut-good bs q e =
     let p = then-some (cut_of bs) (λ x. Some (Cut x)) q e in
-    let s = cut-sound bs p.0 p.1 in
     let z : Cut p.0 ≡ q = cc in
-    subst (Good (67 ∷ bs)) z (s.0, ap (λ l. 67 ∷ l) s.1)
+    subst (λ r. IsTextOf r (67 ∷ bs)) z (cut-sound bs p.0 p.1)
 
-for-good : (c : ℕ) (bs : List ℕ) (q : Request) (r k t : Bool) (o : Option Kind) → eqb c 81 ≡ r → eqb c 75 ≡ k → eqb c 67 ≡ t → kind_for c ≡ o
-    → cond r (then (position_of bs) (λ p. Some (Register p))) (cond k (then (position_of bs) (λ p. Some (Cash p)))
-    (cond t (then (cut_of bs) (λ x. Some (Cut x))) (then o (λ k. then (instruction_of k bs) (λ i. Some (Instruct i)))))) ≡ Some q
-    → Good (c ∷ bs) q
+for-good : (c : ℕ) (bs : List ℕ) (q : Request) (r k t : Bool) (o : Option Kind) → eqb c 81 ≡ r → eqb c 75 ≡ k
+    → eqb c 67 ≡ t → kind_for c ≡ o
+    → cond r (and_then (position_of bs) (λ p. Some (Register p)))
+        (cond k (and_then (position_of bs) (λ p. Some (Cash p)))
+    (cond t (and_then (cut_of bs) (λ x. Some (Cut x)))
+        (and_then o (λ k. and_then (instruction_of k bs) (λ i. Some (Instruct i)))))) ≡ Some q
+    → IsTextOf q (c ∷ bs)
 for-good c bs q true k t o x y w z e =
-    subst (λ d. Good (d ∷ bs) q) (sym (eqb-true c 81 x)) (made 81 (65535 ∷ 65535 ∷ []) bs pair (λ p. Register p) q _ (λ ns. fields-sound _ bs ns narrow-pair) (pair-good 81) e)
+    subst (λ d. IsTextOf q (d ∷ bs)) (sym (eqb-true c 81 x))
+        (made 81 (largest_in 2 ∷ largest_in 2 ∷ []) bs pair (λ p. Register p) q _
+        (λ ns. fields-sound _ bs ns narrow-pair) (pair-good 81) e)
 for-good c bs q false true t o x y w z e =
-    subst (λ d. Good (d ∷ bs) q) (sym (eqb-true c 75 y)) (made 75 (65535 ∷ 65535 ∷ []) bs pair (λ p. Cash p) q _ (λ ns. fields-sound _ bs ns narrow-pair) (pair-good 75) e)
-for-good c bs q false false true o x y w z e = subst (λ d. Good (d ∷ bs) q) (sym (eqb-true c 67 w)) (cut-good bs q e)
+    subst (λ d. IsTextOf q (d ∷ bs)) (sym (eqb-true c 75 y))
+        (made 75 (largest_in 2 ∷ largest_in 2 ∷ []) bs pair (λ p. Cash p) q _
+        (λ ns. fields-sound _ bs ns narrow-pair) (pair-good 75) e)
+for-good c bs q false false true o x y w z e = subst (λ d. IsTextOf q (d ∷ bs)) (sym (eqb-true c 67 w))
+    (cut-good bs q e)
 for-good c bs q false false false (Some k) x y w z e =
     let own : c ≡ letter_of k = search rules in
-    subst (λ d. Good (d ∷ bs) q) (sym own) (made (letter_of k) (widths k) bs (filled k) (λ i. Instruct i) q _ (λ ns. fields-sound _ bs ns (narrow k)) (filled-good k) e)
+    subst (λ d. IsTextOf q (d ∷ bs)) (sym own) (made (letter_of k) (limits k) bs (instruction_with k)
+        (λ i. Instruct i) q _ (λ ns. fields-sound _ bs ns (narrow k)) (filled-good k) e)
 for-good c bs q false false false None x y w z e = absurd cc
 
-after-good : (bs : List ℕ) (q : Request) (w : Word) → Seen bs w → request_after w (after bs) ≡ Some q → Good bs q
-after-good bs q (letter c) s e = subst (λ l. Good l q) (sym s) (for-good c (after bs) q (eqb c 81) (eqb c 75) (eqb c 67) (kind_for c) refl refl refl refl e)
+after-good : (bs : List ℕ) (q : Request) (w : Word) → Seen bs w → request_after w (after_word bs) ≡ Some q
+    → IsTextOf q bs
+after-good bs q (letter c) s e = subst (λ l. IsTextOf q l) (sym s)
+    (for-good c (after_word bs) q (eqb c 81) (eqb c 75) (eqb c 67) (kind_for c) refl refl refl refl e)
 after-good bs q w s e = search rules
 
 -- each well-formed request is read off its text
 at-letter : (c : ℕ) (bs : List ℕ) → is_letter c ≡ true → request_of (c ∷ bs) ≡ request_for c bs
 at-letter c bs l = let f = first-letter c bs l in λ j. request_after (f.0 j) (f.1 j)
 
-for-kind : (k : Kind) (bs : List ℕ) → request_for (letter_of k) bs ≡ then (instruction_of k bs) (λ i. Some (Instruct i))
+for-kind : (k : Kind) (bs : List ℕ) → request_for (letter_of k) bs ≡ and_then (instruction_of k bs) (λ i. Some
+    (Instruct i))
 for-kind k bs = search rules
 
-kind-complete : (k : Kind) (i : Instruction) → i.kind ≡ code_of k → Zeros (unused k i) → Fit i → request_of (written (Instruct i)) ≡ Some (Instruct i)
-kind-complete k i e z f =
-    ap request_of (text-of k i e)
-    ∙ at-letter (letter_of k) (fields_text (used k i)) (search rules)
-    ∙ for-kind k (fields_text (used k i))
-    ∙ ap (λ o. then (then o (λ ns. Some (filled k ns))) (λ i. Some (Instruct i))) (fields-complete (widths k) (used k i) (narrow k) (used-within k i f))
-    ∙ ap (λ x. Some (Instruct x)) (sym (filled-own k i e z))
+kind-complete : (i : Instruction) (bs : List ℕ) → IsInstructionText i bs → request_of bs ≡ Some (Instruct i)
+kind-complete i bs w =
+    let k = w.kind in
+    let own = written_fields k i in
+    ap request_of w.text
+    ∙ at-letter (letter_of k) (numbers_text own) (search rules)
+    ∙ for-kind k (numbers_text own)
+    ∙ ap (λ o. and_then (and_then o (λ ns. Some (instruction_with k ns))) (λ i. Some (Instruct i)))
+        (fields-complete (limits k) own (narrow k) (used-within k i w.fit))
+    ∙ ap (λ x. Some (Instruct x)) (sym (filled-own k i w.byte w.zeros))
 
-pair-complete : (p : Position) → Short p → fields_of (65535 ∷ 65535 ∷ []) (position_text p) ≡ Some (p.account ∷ p.item ∷ [])
-pair-complete p s = fields-complete (65535 ∷ 65535 ∷ []) (p.account ∷ p.item ∷ []) narrow-pair (search rules)
+pair-complete : (p : Position) → p.account < 2 ^ 16 → p.item < 2 ^ 16
+    → numbers_in (largest_in 2 ∷ largest_in 2 ∷ []) (numbers_text (p.account ∷ p.item ∷ [])) ≡ Some
+    (p.account ∷ p.item ∷ [])
+pair-complete p a i = fields-complete (largest_in 2 ∷ largest_in 2 ∷ []) (p.account ∷ p.item ∷ []) narrow-pair
+    (search rules)
 
-request-complete : (q : Request) → WellFormed q → request_of (written q) ≡ Some q
-request-complete (Instruct i) w = kind-complete w.which i w.code w.zeros w.fit
-request-complete (Register p) w =
-    at-letter 81 (position_text p) refl ∙ ap (λ o. then (then o (λ ns. Some (pair ns))) (λ p. Some (Register p))) (pair-complete p w)
-request-complete (Cash p) w =
-    at-letter 75 (position_text p) refl ∙ ap (λ o. then (then o (λ ns. Some (pair ns))) (λ p. Some (Cash p))) (pair-complete p w)
-request-complete (Cut x) w = at-letter 67 (cut_text x) refl ∙ ap (λ o. then o (λ x. Some (Cut x))) (cut-complete x w)
+request-complete : (q : Request) (bs : List ℕ) → IsTextOf q bs → request_of bs ≡ Some q
+request-complete (Instruct i) bs w = kind-complete i bs w
+request-complete (Register p) bs w =
+    ap request_of w.text
+    ∙ at-letter 81 (numbers_text (p.account ∷ p.item ∷ [])) refl
+    ∙ ap (λ o. and_then (and_then o (λ ns. Some (pair ns))) (λ p. Some (Register p)))
+        (pair-complete p w.account w.item)
+request-complete (Cash p) bs w =
+    ap request_of w.text
+    ∙ at-letter 75 (numbers_text (p.account ∷ p.item ∷ [])) refl
+    ∙ ap (λ o. and_then (and_then o (λ ns. Some (pair ns))) (λ p. Some (Cash p))) (pair-complete p w.account w.item)
+request-complete (Cut x) bs w =
+    ap request_of w.text
+    ∙ at-letter 67 (numbers_text (x.calls_left ∷ x.remains)) refl
+    ∙ ap (λ o. and_then o (λ x. Some (Cut x))) (cut-complete x w)
 
-reads-as : (bs : List ℕ) (o : Option Request) → request_of bs ≡ o → ReadsLine bs (listed o)
+reads-as : (bs : List ℕ) (o : Option Request) → request_of bs ≡ o → ReadsLine bs (ok_or o (numbered 71))
 reads-as bs (Some q) e = after-good bs q (first_word bs) (seen bs) e
-reads-as bs None e = (refl, λ q w t. absurd (let z : None ≡ Some q = sym e ∙ ap request_of (sym t) ∙ request-complete q w in cc))
+reads-as bs None e = (refl, λ q w. absurd (let z : None ≡ Some q = sym e ∙ request-complete q bs w in cc))
 
 pub reads-line : (bs : List ℕ) → ReadsLine bs (request_in bs)
 unfolding request_in

@@ -1,8 +1,9 @@
--- A text as lines, each ended by a line feed (10), which the last line may lack. Assumes nothing.
-use Rattle.std.specs.Prelude.{◌≡◌, ℕ, Bool, cond, not, List, [], ◌∷◌, ◌++◌, take, drop, ◌==◌, ◌≢◌}
+-- A text as lines: a line feed (10) ends each, and may be missing after the last.
+use Rattle.std.specs.Prelude.{◌≡◌, ℕ, Bool, not, List, [], ◌∷◌, ◌++◌, take, drop, if◌then◌else◌, ◌==◌, ◌≢◌}
 use Rattle.std.specs.List.{prefix_len, flat_map, AllByRecursion}
 use Rattle.script.specs.declared.Lines.{Lines}
 
+-- a byte that is no line feed
 abbrev pub in_line : ℕ → Bool
 in_line c = not (c == 10)
 
@@ -14,26 +15,28 @@ first_line bs = take (prefix_len in_line bs) bs
 abbrev pub after_line : List ℕ → List ℕ
 after_line bs = drop 1 (drop (prefix_len in_line bs) bs)
 
--- a byte put before the first line
-abbrev pub on_first : ℕ → List (List ℕ) → List (List ℕ)
-on_first c [] = (c ∷ []) ∷ []
-on_first c (l ∷ ls) = (c ∷ l) ∷ ls
+-- the lines with a byte before the first of them
+abbrev pub with_first_byte : ℕ → List (List ℕ) → List (List ℕ)
+with_first_byte c [] = (c ∷ []) ∷ []
+with_first_byte c (l ∷ ls) = (c ∷ l) ∷ ls
 
+-- the lines of a text
 unfoldable pub lines_of : List ℕ → List (List ℕ)
 lines_of [] = []
-lines_of (c ∷ cs) = cond (c == 10) ([] ∷ lines_of cs) (on_first c (lines_of cs))
+lines_of (c ∷ cs) = if c == 10 then [] ∷ lines_of cs else with_first_byte c (lines_of cs)
 
 -- the lines that `Lines` has left
 abbrev pub lines_left : Lines → List (List ℕ)
 lines_left it = lines_of it.rest.now
 
 -- a text with the line feed that its last line lacks
-abbrev pub closed : List ℕ → List ℕ
-closed [] = []
-closed (c ∷ []) = cond (c == 10) (c ∷ []) (c ∷ 10 ∷ [])
-closed (c ∷ d ∷ cs) = c ∷ closed (d ∷ cs)
+abbrev pub with_last_feed : List ℕ → List ℕ
+with_last_feed [] = []
+with_last_feed (c ∷ []) = if c == 10 then c ∷ [] else c ∷ 10 ∷ []
+with_last_feed (c ∷ d ∷ cs) = c ∷ with_last_feed (d ∷ cs)
 
--- no line holds a line feed, and the lines with a line feed after each are the text, but for a missing last line feed
+-- No line holds a line feed, and the lines with a line feed after each are the text, but for the
+-- line feed that the last line may lack.
 pub record Splits (bs : List ℕ) (ls : List (List ℕ)) : Type 0 where
   pub unbroken : AllByRecursion (AllByRecursion (λ c. c ≢ 10)) ls
-  pub whole : flat_map (λ l. l ++ (10 ∷ [])) ls ≡ closed bs
+  pub whole : flat_map (λ l. l ++ (10 ∷ [])) ls ≡ with_last_feed bs

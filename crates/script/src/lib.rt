@@ -1,4 +1,10 @@
-// The reader of examination scripts: a script's lines, a line's tokens, and the request that a line makes.
+//! The reader of examination scripts: the lines of a script, the tokens of a line, and the request
+//! that a line makes.
+//!
+//! [`read_line`] promises (clause `exact`) the request that the line is the text of, or a refusal
+//! where it is the text of none. [`Lines::next_line`] promises (clause `whole`) that the lines,
+//! each with its line feed, are the script. The kinds of instructions and the fields that each kind
+//! uses are those of `instruction`.
 #![tactic(auto)]
 
 ghost use Rattle.std.specs.Prelude.{◌≡◌, ◌^◌, ◌<◌, ◌≤◌, ℕ, Result, true, [], ◌∷◌, length, take, drop, is_some, IfSome, Some, None, MatchOption, ◌==◌, nat_le};
@@ -9,47 +15,55 @@ ghost use Rattle.std.specs.Result.{result_ok};
 ghost use Rattle.std.specs.Iterator.{YieldsFirstRef, item_count};
 ghost use Rattle.std.proofs.Common.{lit<, rules};
 ghost use Rattle.std.specs.declared.num.TryFromIntError.{TryFromIntError};
-ghost use Rattle.script.specs.Words.{is_digit, word, first_word, word_length};
-ghost use Rattle.script.specs.Numerals.{numeral, ReadsNumber};
+ghost use Rattle.script.specs.Words.{is_digit, word_of, first_word, word_length};
+ghost use Rattle.script.specs.Numerals.{largest_in, numeral, ReadsNumber};
 ghost use Rattle.script.specs.Feeds.{in_line, first_line, after_line, lines_of, lines_left, Splits};
-ghost use Rattle.script.specs.Requests.{field_of, past, then, ended, instruction_of, position_of, remains_in, cut_of, kind_for, request_of, request_in, ReadsLine};
+ghost use Rattle.script.specs.Requests.{field_of, after_field, and_then, at_line_end, number_if, after_if, instruction_of, position_of, remains_in, cut_of, kind_for, request_of, request_in};
+ghost use Rattle.script.specs.LineLaw.{ReadsLine};
 
 mod remains;
 
-use instruction::{Instruction, Kind};
+use instruction::{Field, Instruction, Kind};
 use refusals::Refusal;
 pub use remains::Remains;
 use std::num::TryFromIntError;
 
-// A part of a line. A letter is one of A to Z, and digits are as many as follow one another.
-#[derive(Clone, Copy)]
+/// The most remains that a line may give.
+pub const MOST_REMAINS: usize = 8;
+
+/// A part of a line.
+#[derive(Clone, Copy, Debug, PartialEq, Eq)]
 pub enum Token<'a> {
+    /// One of A to Z.
     Letter(&'a u8),
+    /// As many digits as follow one another.
     Digits(&'a [u8]),
+    /// One space.
     Space,
+    /// Any other byte.
     Other,
-    // A case like the others: what follows a field is asked for as a token, and may be the end.
+    /// No byte is left.
     End,
 }
 
-// The types of a field's number. The width of a field is that of its type, and all that an `impl` says is what is most.
+// A type of a field's number. An `impl` says only what the largest value is.
 trait Width: TryFrom<u64, Error = TryFromIntError> {
-    // The most that the type holds.
-    ghost most: { ℕ };
+    // The largest value.
+    ghost largest: { ℕ };
 
     // The number that a value is.
     ghost number: { Self → ℕ };
 
-    // A `u64` holds that too.
-    ghost narrow: { most < 2 ^ 64 };
+    // It fits a `u64`.
+    ghost narrow: { largest < 2 ^ 64 };
 
-    // A number becomes a value exactly where the type holds it.
+    // A number converts exactly where it is no larger.
     ghost holds: { (n : ℕ) (r : Result Self TryFromIntError) → Self.try_from_gives n r
-        → option_map number (result_ok r) ≡ then_some (nat_le n most) n };
+        → option_map number (result_ok r) ≡ then_some (nat_le n largest) n };
 }
 
 impl Width for u8 {
-    ghost most = { 255 };
+    ghost largest = { largest_in 1 };
 
     ghost number = { λ n. n };
 
@@ -59,7 +73,7 @@ impl Width for u8 {
 }
 
 impl Width for u16 {
-    ghost most = { 65535 };
+    ghost largest = { largest_in 2 };
 
     ghost number = { λ n. n };
 
@@ -69,7 +83,7 @@ impl Width for u16 {
 }
 
 impl Width for u32 {
-    ghost most = { 4294967295 };
+    ghost largest = { largest_in 4 };
 
     ghost number = { λ n. n };
 
@@ -79,7 +93,7 @@ impl Width for u32 {
 }
 
 impl Width for u64 {
-    ghost most = { 18446744073709551615 };
+    ghost largest = { largest_in 8 };
 
     ghost number = { λ n. n };
 
@@ -88,21 +102,23 @@ impl Width for u64 {
     ghost holds = { Prim.search rules };
 }
 
-// What is left of a line.
+/// The tokens of a line that are left.
 #[derive(Drop)]
 pub struct Tokens<'a> {
     rest: &'a [u8],
 }
 
 impl<'a> Tokens<'a> {
+    /// All tokens of a line.
     pub fn new(line: &'a [u8]) -> Tokens<'a>
         ensures { result.rest.now ≡ line.now }
     {
         Tokens { rest: line }
     }
 
+    /// Takes the next token.
     pub fn next_token(&mut self) -> Token<'a>
-        ensures token { word result ≡ first_word self.old.rest.now }
+        ensures token { word_of result ≡ first_word self.old.rest.now }
         ensures left { self.new.rest.now ≡ drop (word_length self.old.rest.now) self.old.rest.now }
     {
         let [first, after @ ..] = self.rest else {
@@ -121,10 +137,11 @@ impl<'a> Tokens<'a> {
         token
     }
 
-    // A space and a number that the type holds.
+    // Takes a space and a number that fits the type. After a `None` the line is refused, so no
+    // clause says what is left.
     fn field<T: Width>(&mut self) -> Option<T>
-        ensures value { option_map T.number result ≡ field_of T.most self.old.rest.now }
-        ensures left { is_some result ≡ true → self.new.rest.now ≡ past self.old.rest.now }
+        ensures value { option_map T.number result ≡ field_of T.largest self.old.rest.now }
+        ensures left { is_some result ≡ true → self.new.rest.now ≡ after_field self.old.rest.now }
     {
         let Token::Space = self.next_token() else {
             return None;
@@ -134,9 +151,21 @@ impl<'a> Tokens<'a> {
         };
         T::try_from(number(digits, u64::MAX)?).ok()
     }
+
+    // Takes a field if it is used, and gives 0 if not.
+    fn field_if<T: Width>(&mut self, used: bool) -> Option<T>
+        ensures value { option_map T.number result ≡ number_if used T.largest self.old.rest.now }
+        ensures left { is_some result ≡ true → self.new.rest.now ≡ after_if used self.old.rest.now }
+    {
+        if used {
+            self.field()
+        } else {
+            T::try_from(0).ok()
+        }
+    }
 }
 
-// How many digits a text begins with. `line_length` below differs in its test, which is all that either says.
+// How many digits a text begins with.
 fn digit_count(s: &[u8]) -> usize
     ensures value { result ≡ prefix_len is_digit s.now }
     ensures within { result ≤ length s.now }
@@ -144,7 +173,8 @@ fn digit_count(s: &[u8]) -> usize
     s.iter().take_while(|b| b.is_ascii_digit()).count()
 }
 
-// A decimal number of at most `most`, with no leading zero.
+/// The decimal number of at most `most` that the text writes, with no leading zero; `None` where it
+/// writes none.
 pub fn number(digits: &[u8], most: u64) -> Option<u64>
     ensures value { result ≡ numeral most digits.now }
     ensures bound { IfSome result (λ n. n ≤ most) }
@@ -153,9 +183,9 @@ pub fn number(digits: &[u8], most: u64) -> Option<u64>
     decimal(digits).filter(|n| *n <= most)
 }
 
-// A decimal number with no leading zero. `parse` alone would take a plus sign and leading zeros too.
+// A decimal number with no leading zero: `parse` takes a plus sign and leading zeros too.
 fn decimal(digits: &[u8]) -> Option<u64>
-    ensures { result ≡ numeral 18446744073709551615 digits.now }
+    ensures { result ≡ numeral (largest_in 8) digits.now }
 {
     let ([b'0'] | [b'1'..=b'9', ..]) = digits else {
         return None;
@@ -163,25 +193,30 @@ fn decimal(digits: &[u8]) -> Option<u64>
     str::from_utf8(digits).ok()?.parse().ok()
 }
 
-// The lines of a script that are left. A line feed ends a line, and may be missing after the last.
+/// The lines of a script that are left. A line feed ends each, and may be missing after the last.
 #[derive(Drop)]
 pub struct Lines<'a> {
     rest: &'a [u8],
 }
 
 impl<'a> Lines<'a> {
+    /// All lines of a script.
     pub fn new(script: &'a [u8]) -> Lines<'a>
         ensures { result.rest.now ≡ script.now }
     {
         Lines { rest: script }
     }
 
-    // What `next` gives, with what is known of the bytes too.
+    /// Takes the next line, without its line feed: what `next` gives, under clauses that speak of
+    /// the bytes.
     pub fn next_line(&mut self) -> Option<&'a [u8]>
-        ensures line { MatchOption result (self.old.rest.now ≡ []) (λ l. (0 < length self.old.rest.now) × (l.now ≡ first_line self.old.rest.now)) }
+        ensures line { MatchOption result (self.old.rest.now ≡ [])
+            (λ l. (0 < length self.old.rest.now) × (l.now ≡ first_line self.old.rest.now)) }
         ensures left { self.new.rest.now ≡ after_line self.old.rest.now }
-        ensures shorter { is_some result ≡ true → length self.new.rest.now < length self.old.rest.now }
-        ensures lines { MatchOption result (lines_of self.old.rest.now ≡ []) (λ l. lines_of self.old.rest.now ≡ l.now ∷ lines_of self.new.rest.now) }
+        ensures shorter { is_some result ≡ true
+            → length self.new.rest.now < length self.old.rest.now }
+        ensures lines { MatchOption result (lines_of self.old.rest.now ≡ [])
+            (λ l. lines_of self.old.rest.now ≡ l.now ∷ lines_of self.new.rest.now) }
         ensures whole { Splits self.old.rest.now (lines_of self.old.rest.now) }
     {
         if self.rest.is_empty() {
@@ -205,7 +240,7 @@ impl<'a> Iterator for Lines<'a> {
     }
 }
 
-// How many bytes stand before the first line feed, or in all.
+// How many bytes stand before the first line feed, or in all where there is none.
 fn line_length(s: &[u8]) -> usize
     ensures value { result ≡ prefix_len in_line s.now }
     ensures within { result ≤ length s.now }
@@ -213,29 +248,43 @@ fn line_length(s: &[u8]) -> usize
     s.iter().take_while(|b| **b != b'\n').count()
 }
 
-// What a line asks for. A position is an account with an item of the register, or with a currency of cash.
-#[derive(Clone, Copy)]
+/// What a line asks for.
+#[derive(Clone, Copy, Debug, PartialEq, Eq)]
 pub enum Request {
+    /// I, D, T, E, L, S or F: carry out an instruction.
     Instruct(Instruction),
+    /// Q: the free and blocked amounts of an account in the register.
     Register(Position),
+    /// K: the free and blocked amounts of an account in the cash book.
     Cash(Position),
+    /// C: cut the power, and open the device again.
     Cut(Cut),
 }
 
-#[derive(Clone, Copy)]
+/// A place in a book.
+#[derive(Clone, Copy, Debug, PartialEq, Eq)]
 pub struct Position {
+    /// An account, which the book may not have.
     pub account: u16,
+    /// An item of the register, or a currency of the cash book.
     pub item: u16,
 }
 
-// A cut of the power: the number of calls and the remains that the restart after it is given.
-#[derive(Clone, Copy)]
+/// A cut of the power: what the restart after it is given.
+#[derive(Clone, Copy, Debug, PartialEq, Eq)]
 pub struct Cut {
-    pub calls: u32,
+    /// The number of calls that the device then has left.
+    pub calls_left: u32,
+    /// What becomes of the blocks that are loose.
     pub remains: Remains,
 }
 
-// A line of any form but the listed ones is refused.
+/// Reads a line.
+///
+/// # Errors
+///
+/// `UnlistedLine` (71) where the line is in none of the listed forms, or a number is too large for
+/// its field.
 pub fn read_line(line: &[u8]) -> Result<Request, Refusal>
     ensures value { result ≡ request_in line.now }
     ensures exact { ReadsLine line.now result }
@@ -259,7 +308,7 @@ fn read_request(line: &[u8]) -> Option<Request>
     tokens.rest.is_empty().then_some(request)
 }
 
-// The kind of a script's letter. The letters are this crate's, and a `TryFrom` would have to stand beside `Kind`.
+// The kind of a letter.
 fn kind_of(letter: char) -> Option<Kind>
     ensures { result ≡ kind_for letter }
 {
@@ -275,44 +324,26 @@ fn kind_of(letter: char) -> Option<Kind>
     }
 }
 
-// The fields that the kind uses, in the order of the instruction's bytes, and 0 in the others. The line has to end after
-// them, which is left to the caller.
+// Reads the fields that the kind uses. That the line ends after them is left to the caller, here
+// and below.
 fn read_instruction(kind: Kind, tokens: &mut Tokens) -> Option<Instruction>
-    ensures { instruction_of kind tokens.old.rest.now ≡ then result (ended tokens.new.rest.now) }
+    ensures { instruction_of kind tokens.old.rest.now
+        ≡ and_then result (at_line_end tokens.new.rest.now) }
 {
-    let instruction = match kind {
-        Kind::Issue => Instruction {
-            account: tokens.field()?,
-            item: tokens.field()?,
-            quantity: tokens.field()?,
-            ..Instruction::of_kind(kind)
-        },
-        Kind::PayIn => Instruction {
-            account: tokens.field()?,
-            currency: tokens.field()?,
-            amount: tokens.field()?,
-            ..Instruction::of_kind(kind)
-        },
-        Kind::Enter => Instruction {
-            account: tokens.field()?,
-            counterparty: tokens.field()?,
-            item: tokens.field()?,
-            currency: tokens.field()?,
-            trade: tokens.field()?,
-            quantity: tokens.field()?,
-            amount: tokens.field()?,
-            ..Instruction::of_kind(kind)
-        },
-        Kind::Earmark | Kind::Fund | Kind::Settle | Kind::Free => Instruction {
-            trade: tokens.field()?,
-            ..Instruction::of_kind(kind)
-        },
-    };
-    Some(instruction)
+    Some(Instruction {
+        kind: kind.into(),
+        account: tokens.field_if(kind.uses(Field::Account))?,
+        counterparty: tokens.field_if(kind.uses(Field::Counterparty))?,
+        item: tokens.field_if(kind.uses(Field::Item))?,
+        currency: tokens.field_if(kind.uses(Field::Currency))?,
+        trade: tokens.field_if(kind.uses(Field::Trade))?,
+        quantity: tokens.field_if(kind.uses(Field::Quantity))?,
+        amount: tokens.field_if(kind.uses(Field::Amount))?,
+    })
 }
 
 fn read_position(tokens: &mut Tokens) -> Option<Position>
-    ensures { position_of tokens.old.rest.now ≡ then result (ended tokens.new.rest.now) }
+    ensures { position_of tokens.old.rest.now ≡ and_then result (at_line_end tokens.new.rest.now) }
 {
     Some(Position {
         account: tokens.field()?,
@@ -321,17 +352,18 @@ fn read_position(tokens: &mut Tokens) -> Option<Position>
 }
 
 fn read_cut(tokens: &mut Tokens) -> Option<Cut>
-    ensures { cut_of tokens.old.rest.now ≡ then result (ended tokens.new.rest.now) }
+    ensures { cut_of tokens.old.rest.now ≡ and_then result (at_line_end tokens.new.rest.now) }
 {
     Some(Cut {
-        calls: tokens.field()?,
+        calls_left: tokens.field()?,
         remains: read_remains(tokens)?,
     })
 }
 
 // All that is left of the line, which may be nothing.
 fn read_remains(tokens: &mut Tokens) -> Option<Remains>
-    ensures { remains_in 8 tokens.old.rest.now ≡ then result (ended tokens.new.rest.now) }
+    ensures { remains_in MOST_REMAINS tokens.old.rest.now
+        ≡ and_then result (at_line_end tokens.new.rest.now) }
 {
     let mut remains = Remains::new();
     while !tokens.rest.is_empty() {

@@ -1,21 +1,24 @@
-// The remains that a line gives: up to eight bytes, without memory. A contract sees the list of them. Past them stand zeros, so
-// that equal lists are equal values.
+//! The remains that a line gives: up to [`MOST_REMAINS`] bytes, held without memory.
+
 ghost use Rattle.std.specs.Prelude.{◌≡◌, ◌<◌, ◌≤◌, [], ◌∷◌, ◌++◌, length, MatchOption};
 
+use crate::MOST_REMAINS;
 use std::marker::Model;
 
-// The most remains that a line may give.
-const MOST: usize = 8;
-
-#[derive(Clone, Copy)]
+/// What becomes of the loose blocks at a restart: a byte for each, in rising number of the blocks.
+///
+/// A contract sees the list of the bytes.
+// Past the given bytes stand zeros, so that equal lists are equal values.
+#[derive(Clone, Copy, Debug, PartialEq, Eq)]
 pub struct Remains {
-    bytes: [u8; MOST],
+    bytes: [u8; MOST_REMAINS],
     count: usize,
 }
 
 impl Model for Remains {
     ghost use Rattle.std.specs.Prelude.{ℕ, List, length, take};
-    ghost use Rattle.script.specs.Padded.{padded, IsPadded, padded-own, count-own};
+    ghost use Rattle.script.specs.Padded.{with_zeros, IsPadded};
+    ghost use Rattle.script.specs.PaddedLemmas.{with_zeros-own, count-own};
 
     ghost Value = { List ℕ };
 
@@ -23,10 +26,10 @@ impl Model for Remains {
 
     ghost invariant = { λ r. IsPadded r.bytes r.count };
 
-    ghost inverse = { λ ns. record { bytes = padded ns; count = length ns } };
+    ghost inverse = { λ ns. record { bytes = with_zeros ns; count = length ns } };
 
     ghost inverse_ok = { λ r h i. record {
-      bytes = padded-own r.bytes r.count h i;
+      bytes = with_zeros-own r.bytes r.count h i;
       count = count-own r.bytes r.count h i;
     } };
 }
@@ -36,19 +39,20 @@ impl Remains {
         ensures { result ≡ [] }
     {
         Remains {
-            bytes: [0; MOST],
+            bytes: [0; MOST_REMAINS],
             count: 0,
         }
     }
 
-    // One more, where there is room.
+    // Adds one more; `None` where there is no room.
     pub(crate) fn push(&mut self, byte: u8) -> Option<()>
         ensures { MatchOption result
-            ((self.new ≡ self.old) × (8 ≤ length self.old))
-            (λ _. (self.new ≡ self.old ++ byte ∷ []) × (length self.old < 8)) }
+            ((self.new ≡ self.old) × (MOST_REMAINS ≤ length self.old))
+            (λ _. (self.new ≡ self.old ++ byte ∷ []) × (length self.old < MOST_REMAINS)) }
     {
-        // By index: after a `get_mut` a proof knows how many bytes there are, and not what they hold.
-        if self.count >= MOST {
+        // Indexed, since after a `get_mut` the library's contract keeps the array's length and not
+        // its contents.
+        if self.count >= MOST_REMAINS {
             return None;
         }
         self.bytes[self.count] = byte;
@@ -56,10 +60,10 @@ impl Remains {
         Some(())
     }
 
-    // The bytes given, in their order.
+    /// The bytes, in the order of the line.
     pub fn as_slice(&self) -> &[u8]
         ensures value { result.now ≡ self.now }
-        ensures few { length result.now ≤ 8 }
+        ensures few { length result.now ≤ MOST_REMAINS }
     {
         &self.bytes[..self.count]
     }

@@ -1,5 +1,6 @@
 use Rattle.std.proofs.Common.{◌≡◌, sym, subst, rules}
-use Rattle.script.specs.Requests.{request_in, ReadsLine}
+use Rattle.script.specs.Requests.{request_in}
+use Rattle.script.specs.LineLaw.{ReadsLine}
 use Rattle.script.proofs.Reading.{reads-line}
 use Rattle.script.proofs.read_line.Goals as goal
 

@@ -7,5 +7,7 @@ use Rattle.examination.proofs.lines.read_requests.Goals as goal
 
 pub returns : goal.returns
 returns c =
-    let left = YieldsList-from_first (λ x. x.now) lines_left (lines_of c.args.script.now) (ap lines_left c.map.ensures.source ∙ ap lines_of c.new.ensures) in
-    items_from_collect _ c.collect.ensures.ran (YieldsList-from_map _ request_in left c.map.ensures.closure (λ x r q k. search (rules, tests)))
+    let left = YieldsList-from_first (λ x. x.now) lines_left (lines_of c.args.script.now)
+    (ap lines_left c.map.ensures.source ∙ ap lines_of c.new.ensures) in
+    items_from_collect _ c.collect.ensures.ran (YieldsList-from_map _ request_in left c.map.ensures.closure
+    (λ x r q k. search (rules, tests)))
