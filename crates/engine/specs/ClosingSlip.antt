@@ -29,7 +29,7 @@ verdict_number Stands = 1
 verdict_number Unknown = 53
 verdict_number Differs = 54
 
--- the part of the house that gives them
+-- the place of each: the engine
 abbrev pub verdict_place : Verdict → Place
 verdict_place Same = Engine
 verdict_place Stands = Engine

@@ -38,7 +38,7 @@ impl Verdict {
         self as u8
     }
 
-    /// The part of the house that gives verdicts.
+    /// The place of every verdict: the engine.
     pub fn place(self) -> Place
         ensures { result ≡ verdict_place self }
     {

@@ -50,7 +50,7 @@ states_with_blocked cash = Funded ∷ []
 abbrev pub has_blocked : Side → State → Bool
 has_blocked d o = is_among o (states_with_blocked d)
 
--- A rule book says which kinds of instruction it knows. Every rule book knows all seven.
+-- the rules know this kind of instruction: all seven, in every rule book
 abbrev pub knows_kind : Rulebook → Act → Bool
 knows_kind h None = false
 knows_kind h (Some k) = true

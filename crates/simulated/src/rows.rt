@@ -80,8 +80,8 @@ fn keep(row: &mut [u8; ROW], flag: u8, bytes: &[u8; BLOCK_SIZE])
     row[LOOSE_FLAG] = 0;
 }
 
-// Keeps the kept bytes under a first byte.
-fn mark(row: &mut [u8; ROW], flag: u8)
+// Sets the first byte, and makes the row firm. The kept bytes stay.
+fn set_flag(row: &mut [u8; ROW], flag: u8)
     ensures { row.new ≡ firm_row flag (kept_bytes row.old) row.old }
 {
     let bytes = *kept_bytes(row);
