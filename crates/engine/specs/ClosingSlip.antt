@@ -42,8 +42,8 @@ presented_number (Ok v) = verdict_number v
 presented_number (Err r) = number_of r
 
 -- no two of these answers share a number
-abbrev pub PresentedApart : Type 0
-PresentedApart =
+abbrev pub PresentedNumbersDiffer : Type 0
+PresentedNumbersDiffer =
     (a b : Result Verdict Refusal) → presented_number a ≡ presented_number b → a ≡ b
 
 abbrev pub same_fields : Instruction → Instruction → Bool

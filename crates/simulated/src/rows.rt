@@ -124,14 +124,14 @@ fn revive(row: &mut [u8; ROW], byte: u8)
 {
     let flag = row[0];
     match byte {
-        0 => mark(row, flag),
+        0 => set_flag(row, flag),
         1 => keep_newer(row),
-        2 => mark(row, 1),
+        2 => set_flag(row, 1),
         3 if flag == 0 => {
             let bytes = tear(row);
             keep(row, 0, &bytes);
         }
-        3 => mark(row, 1),
+        3 => set_flag(row, 1),
         _ => keep(row, 0, &[byte; BLOCK_SIZE]),
     }
 }
