@@ -17,7 +17,7 @@ ghost use Rattle.check_trials.specs.ByHand.{eight_amounts};
 use balances::Balances;
 use book::{Book, Holding};
 use device::BLOCK_SIZE;
-use instruction::{Instruction, Kind};
+use instruction::{INSTRUCTION_SIZE, Instruction, Kind};
 use journal::{is_good_mark, mark_block};
 use ledger::Ledger;
 use lots::Lots;
@@ -50,7 +50,7 @@ pub struct Outcomes {
     /// To credit a fresh book of lots with 2 of one lot.
     pub credit_of_two: u8,
     /// An Earmark of trade 7.
-    pub earmark_bytes: [u8; 32],
+    pub earmark_bytes: [u8; INSTRUCTION_SIZE],
     /// To enter a trade with one account as seller and buyer, which does not exist either.
     pub same_parties: u8,
     /// The amounts after a trade was settled.
@@ -86,7 +86,7 @@ fn credit_of(quantity: u64) -> u8
     answer_number(book.credit(0, 0, quantity))
 }
 
-fn earmark_bytes() -> [u8; 32]
+fn earmark_bytes() -> [u8; INSTRUCTION_SIZE]
     ensures { result ≡ earmark_of_trade_7 }
 {
     Instruction::on_trade(Kind::Earmark, 7).to_bytes()
