@@ -25,7 +25,7 @@ use Rattle.engine.specs.Recovery.{rules_answer, answer_by_record, answer_by_mark
 use Rattle.engine.specs.declared.engine.Mode.TheVariants.{Open}
 use Rattle.engine.specs.View.{View}
 use Rattle.engine.specs.Opening.{outcome_view, view_by_header, opening_view, header_for_books, last_of}
-use Rattle.engine.specs.Lasting.{record_contents, entry_instruction, standing_list, blocks_for_books}
+use Rattle.engine.specs.StandingList.{record_contents, entry_instruction, standing_list, blocks_for_books}
 use Rattle.engine.specs.Findings.{EntriesStand, FindsEntries, RefusesEntry, RefusesList, Opens, OpensIfEnoughCalls}
 use Rattle.engine.proofs.Readings.{entry-two}
 use Rattle.engine.proofs.Refusals.{same-fault, header-refuses, entry-refuses}

@@ -19,7 +19,7 @@ use Rattle.journal.proofs.ReadAnswers.{mark-bad, mark-good}
 use Rattle.engine.specs.declared.engine.FoundEntries.{FoundEntries}
 use Rattle.engine.specs.Recovery.{rules_answer, answer_by_record, answer_by_mark, entry_answer, scan_turn, Scan, scan}
 use Rattle.engine.specs.Opening.{last_of}
-use Rattle.engine.specs.Lasting.{blocks_for_books}
+use Rattle.engine.specs.StandingList.{blocks_for_books}
 
 -- from s the instructions are accepted one after another, and lead to t
 abbrev Follows : Rulebook → Standing → List Instruction → Standing → Type 0

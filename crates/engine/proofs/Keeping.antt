@@ -10,7 +10,7 @@ use Rattle.engine.specs.declared.engine.Mode.{Mode}
 use Rattle.engine.specs.declared.engine.Mode.TheVariants.{Open, Down, Refused}
 use Rattle.engine.specs.View.{View}
 use Rattle.engine.specs.Opening.{last_of}
-use Rattle.engine.specs.Lasting.{blocks_for_books}
+use Rattle.engine.specs.StandingList.{blocks_for_books}
 
 -- the instructions of the list were accepted one after another, and so would be the one in hand
 pub record Lawful (h : Rulebook) (xs : List Instruction) (hand : Option Instruction) : Type 0 where

@@ -22,7 +22,7 @@ use Rattle.engine.specs.declared.engine.FoundEntries.{FoundEntries}
 use Rattle.engine.specs.Recovery.{Scan, scan}
 use Rattle.engine.specs.View.{View}
 use Rattle.engine.specs.Opening.{outcome_view, scan_view, refused_view, view_by_header, opening_view, header_for_books}
-use Rattle.engine.specs.Lasting.{record_contents, entry_instruction, standing_list, blocks_for_books}
+use Rattle.engine.specs.StandingList.{record_contents, entry_instruction, standing_list, blocks_for_books}
 use Rattle.engine.proofs.Keeping.{Lawful, WithOrWithout, OpenedOn}
 use Rattle.engine.proofs.Finds.{Ends, calls-find}
 

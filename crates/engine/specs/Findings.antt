@@ -18,7 +18,7 @@ use Rattle.engine.specs.declared.engine.Mode.TheVariants.{Open, Down, Refused}
 use Rattle.engine.specs.View.{View}
 use Rattle.engine.specs.Opening.{header_for_books, last_of}
 use Rattle.engine.specs.Instructing.{named_trade}
-use Rattle.engine.specs.Lasting.{entry_instruction, standing_list}
+use Rattle.engine.specs.StandingList.{entry_instruction, standing_list}
 
 -- the mark of entry k is good
 abbrev pub HasGoodMark : Medium → ℕ → Type 0
