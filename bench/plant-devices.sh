@@ -1,6 +1,6 @@
 #!/bin/sh
-# Plants one fault after another in a copy of the twin, and shows whether devices finds it.
-# usage: ./plant-devices.sh, once crates/bench_library/out has the library
+# Plants one mistake after another in a copy of the twin, and shows whether devices finds it.
+# usage: ./plant-devices.sh, after `rt lib` in crates/bench_library
 set -eu
 cd "$(dirname "$0")"
 rm -rf planted

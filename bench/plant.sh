@@ -1,6 +1,6 @@
 #!/bin/sh
-# Plants one fault after another in a copy of the twin, and shows whether compare finds it.
-# usage: ./plant.sh ORIGINAL
+# Plants one mistake after another in a copy of the twin, and shows whether compare finds it.
+# usage: ./plant.sh PROGRAM, the proved program
 set -eu
 cd "$(dirname "$0")"
 original=$1

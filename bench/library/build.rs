@@ -1,5 +1,5 @@
-//! Links the proved engine, which `rt lib` in crates/bench_library builds, and the kit's few lines of C for a library's memory, which
-//! lie beside `rt`. LIBRARY and KIT_C may name other folders.
+//! Links the proved engine, which `rt lib` in crates/bench_library builds, and the kit's C code for a library's memory, which lies
+//! beside `rt`. The variables LIBRARY and KIT_C may name other folders.
 
 use std::env;
 use std::path::{Path, PathBuf};
@@ -11,7 +11,7 @@ fn main() {
     link("KIT_C", kit.join("c"), "libc_c");
 }
 
-/// The folder that `rt` is in, but for its `bin`.
+/// The kit's folder: `rt` is in its `bin`.
 fn kit() -> Option<PathBuf> {
     let path = env::var_os("PATH")?;
     let rt = env::split_paths(&path).map(|folder| folder.join("rt")).find(|rt| rt.exists())?;

@@ -1,4 +1,4 @@
-// Memory for the proved engine that refuses about half of what is asked for lists of a few blocks. It stands in place of the kit's.
+// Memory for the proved engine, in place of the kit's: it refuses about half of the requests for short lists of blocks.
 #include <stdbool.h>
 #include <stddef.h>
 #include <stdio.h>
@@ -24,7 +24,7 @@ static struct tried tried(void *p) {
     return (struct tried){p != NULL, p != NULL ? p : &nothing};
 }
 
-// A list begins with 16 bytes. An image may have as few, but hardly ever has.
+// A list begins with 16 bytes. An image can be as short, but hardly ever is.
 struct tried rattle_alloc(size_t size, size_t align) {
     (void)align;
     return tried(size == 16 && refuses(size) ? NULL : malloc(size));

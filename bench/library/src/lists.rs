@@ -46,7 +46,7 @@ pub struct List {
     pub calls: Vec<Call>,
 }
 
-/// A list in the making, and the twin that is given its calls so far.
+/// A list in the making, with the twin that has been given its calls so far.
 struct Draft {
     twin: Box<dyn Gives>,
     data: Vec<u8>,
@@ -54,8 +54,8 @@ struct Draft {
     blocks: u32,
 }
 
-/// Makes the lists of a seed, and the images on which they are carried out. What is worth asking next depends on what was
-/// answered so far, and the twin is asked for that; of the books it has only a rough idea.
+/// Makes the lists of a seed, and the images on which they are carried out. It asks the twin what was answered so far, to decide
+/// what to ask next; of the books it has only a rough idea.
 pub struct Maker {
     rng: Rng,
     device: u8,
@@ -84,7 +84,7 @@ impl Maker {
         self.rng.between(1, 3)
     }
 
-    /// Whether the next list goes on from the proved engine's image, and not from the twin's.
+    /// Whether the next list continues with the proved engine's image, and not with the twin's.
     pub fn from_original(&mut self) -> bool {
         self.rng.chance(50)
     }
@@ -96,7 +96,7 @@ impl Maker {
         }
     }
 
-    /// The image of a seed's first list: of zeros, of bytes without sense, or a journal.
+    /// The image of a seed's first list: zeros, random bytes, or a journal.
     pub fn image(&mut self) -> Vec<u8> {
         let rows = match self.rng.below(2000) {
             0..=1 => self.rng.between(65_534, 65_538),
@@ -154,7 +154,7 @@ impl Maker {
         self.rng.pick(&choices)
     }
 
-    /// Makes a block hold bytes, firmly or as its newer bytes, if the image has it.
+    /// Makes a block hold bytes, firmly or as its newer bytes, if the image has the block.
     fn put_block(&mut self, image: &mut [u8], block: u32, bytes: &Bytes) {
         let at = block as usize * self.row();
         let Some(row) = image.get_mut(at..at + self.row()) else { return };
@@ -265,7 +265,7 @@ impl Maker {
         List { setup, data, calls: draft.calls }
     }
 
-    /// Adds a call, and sees what the twin answers.
+    /// Adds a call, and takes note of the twin's answer.
     fn add(&mut self, draft: &mut Draft, call: Call) {
         draft.calls.push(call);
         let answer = draft.twin.give(&call, &mut draft.data);
@@ -349,7 +349,7 @@ impl Maker {
         }
     }
 
-    /// Remains, blocks of a journal, bytes without sense, and zeros for reads to fill.
+    /// Remains, blocks of a journal, random bytes, and zeros for reads to fill.
     fn data(&mut self) -> Vec<u8> {
         let mut data = Vec::new();
         for _ in 0..BLOCK {
@@ -395,7 +395,7 @@ impl Maker {
         }
     }
 
-    /// A call that may fit or not. It neither opens nor closes.
+    /// A call that may or may not fit. It neither opens nor closes.
     fn any_call(&mut self) -> Call {
         let fields = self.instruction();
         let length = self.rng.below(40) as u32;
@@ -496,7 +496,7 @@ impl Maker {
         Call { fields, ..Call::of(action) }
     }
 
-    /// Changes some of the fields of a call to a book, so that more than one check may fail.
+    /// Changes some of the fields of a call to a book, so that more than one test may apply.
     fn spoil(&mut self, fields: &mut Instruction) {
         if self.rng.chance(50) {
             fields.account = self.boundary() as u16;
@@ -560,7 +560,7 @@ impl Maker {
         }
     }
 
-    /// An instruction that may well be accepted.
+    /// An instruction that has a good chance to be accepted.
     fn live(&mut self) -> Instruction {
         match self.rng.below(10) {
             0..=1 => self.credit(ISSUE),

@@ -1,9 +1,9 @@
-//! The proved engine.
+//! The proved engine, behind the rows.
 
-use crate::rows::{Answer, Call, Setup, Trial};
+use crate::rows::{Answer, Call, Setup, Timing};
 
 extern "C" {
-    fn bindings_run(
+    fn bench_run(
         setup: *const Setup,
         image: *mut u8,
         image_length: usize,
@@ -15,22 +15,22 @@ extern "C" {
         answers_length: usize,
     ) -> u8;
 
-    fn bindings_time(
+    fn bench_time(
         setup: *const Setup,
         image: *mut u8,
         image_length: usize,
-        trial: *const Trial,
-        told: *mut u64,
+        timing: *const Timing,
+        count: *mut u64,
     ) -> u8;
 }
 
 /// Answers the calls, and changes image and data as they do.
 pub fn run(setup: &Setup, image: &mut [u8], data: &mut [u8], calls: &[Call]) -> Vec<Answer> {
-    // A number that no call is answered, so that a row that is not filled is seen.
+    // No call is answered this number, so a row that is left unfilled shows.
     let mut answers = vec![Answer::of_number(254); calls.len()];
     // SAFETY: the library reads and writes the given slices within their lengths, and keeps none of them.
     let status = unsafe {
-        bindings_run(
+        bench_run(
             setup,
             image.as_mut_ptr(),
             image.len(),
@@ -46,11 +46,11 @@ pub fn run(setup: &Setup, image: &mut [u8], data: &mut [u8], calls: &[Call]) -> 
     answers
 }
 
-/// Does a trial, and gives what it tells.
-pub fn time(setup: &Setup, image: &mut [u8], trial: &Trial) -> u64 {
-    let mut told = 0;
+/// Does what is to be timed, and gives the count.
+pub fn time(setup: &Setup, image: &mut [u8], timing: &Timing) -> u64 {
+    let mut count = 0;
     // SAFETY: as above.
-    let status = unsafe { bindings_time(setup, image.as_mut_ptr(), image.len(), trial, &mut told) };
-    assert_eq!(status, 0, "the library does the trial");
-    told
+    let status = unsafe { bench_time(setup, image.as_mut_ptr(), image.len(), timing, &mut count) };
+    assert_eq!(status, 0, "the library does what is to be timed");
+    count
 }

@@ -1,4 +1,4 @@
-//! The rows of crates/bench_library.
+//! The rows that cross to crates/bench_library.
 
 use std::fmt;
 
@@ -11,7 +11,7 @@ pub const BATTERY: u8 = 1;
 /// No block, no entry or no trade.
 pub const NONE: u64 = u64::MAX;
 
-/// What a call is answered that does not fit.
+/// The answer to a call that does not fit.
 pub const MISFIT: u8 = 255;
 
 #[repr(C)]
@@ -45,7 +45,7 @@ pub mod action {
     pub const WRITE: u8 = 23;
     pub const SYNC: u8 = 24;
     pub const SIZE: u8 = 25;
-    /// The first of ten, to the register; ten on are those to the cash book.
+    /// The first of ten calls to the register. The ten to the cash book follow.
     pub const BOOK: u8 = 30;
 }
 
@@ -132,7 +132,7 @@ impl fmt::Display for Answer {
 
 #[repr(C)]
 #[derive(Clone, Copy, Debug)]
-pub struct Trial {
+pub struct Timing {
     pub what: u8,
     pub rounds: u32,
     pub pairs: u32,

@@ -7,7 +7,7 @@ use twin::fault::Fault;
 use twin::instruction::Instruction;
 use twin::journal;
 
-use crate::rows::{action, Answer, Call, Setup, Trial, BATTERY, MISFIT, SIMULATED};
+use crate::rows::{action, Answer, Call, Setup, Timing, BATTERY, MISFIT, SIMULATED};
 
 /// A device that is made from an image, and gives it back.
 trait Imaged: PoweredDevice + 'static {
@@ -43,7 +43,7 @@ pub trait Gives {
 enum Work<'a> {
     Start(&'a mut Option<Box<dyn Gives>>),
     Calls { calls: &'a [Call], data: &'a mut [u8], answers: &'a mut [Answer] },
-    Trial(&'a Trial),
+    Timing(&'a Timing),
 }
 
 /// Answers the calls, and changes image and data as they do.
@@ -60,9 +60,9 @@ pub fn start(setup: &Setup, image: &[u8]) -> Box<dyn Gives> {
     twin.expect("it was made")
 }
 
-/// Does a trial, and gives what it tells.
-pub fn time(setup: &Setup, image: &mut [u8], trial: &Trial) -> u64 {
-    carry_out(setup, image, Work::Trial(trial))
+/// Does what is to be timed, and gives the count.
+pub fn time(setup: &Setup, image: &mut [u8], timing: &Timing) -> u64 {
+    carry_out(setup, image, Work::Timing(timing))
 }
 
 fn carry_out(setup: &Setup, image: &mut [u8], work: Work) -> u64 {
@@ -96,7 +96,7 @@ fn on_image<D: Imaged, R: Book + 'static, C: Book + 'static>(
             *twin = Some(Box::new(Some(Machine::new(device, register, cash))));
             return 0;
         }
-        Work::Trial(trial) => time_parts((device, register, cash), trial),
+        Work::Timing(timing) => time_parts((device, register, cash), timing),
         Work::Calls { calls, data, answers } => {
             let mut machine = Machine::new(device, register, cash);
             for (call, answer) in calls.iter().zip(answers) {
@@ -198,7 +198,7 @@ fn held<F: Into<Fault>>(answer: Result<(u64, u64), F>) -> Answer {
     answer.map_or_else(|fault| Answer::of_fault(fault.into()), |(free, blocked)| Answer::telling(free, blocked))
 }
 
-/// The bytes that a call takes, if all of them are there.
+/// The bytes that a call uses, if all of them are there.
 fn bytes_of<'a>(call: &Call, data: &'a mut [u8]) -> Option<&'a mut [u8]> {
     let from = call.from as usize;
     data.get_mut(from..from + call.length as usize)
@@ -279,13 +279,13 @@ fn to_book(book: &mut impl Book, action: u8, call: &Call) -> Option<Answer> {
 
 type Parts<D, R, C> = (D, R, C);
 
-fn time_parts<D: PoweredDevice, R: Book, C: Book>(parts: Parts<D, R, C>, trial: &Trial) -> (D, u64) {
-    match trial.what {
-        0 => fill(parts, trial),
-        1 => reopen(parts, trial.rounds),
+fn time_parts<D: PoweredDevice, R: Book, C: Book>(parts: Parts<D, R, C>, timing: &Timing) -> (D, u64) {
+    match timing.what {
+        0 => fill(parts, timing),
+        1 => reopen(parts, timing.rounds),
         _ => {
             let mut device = parts.0;
-            let sum = read(&mut device, trial);
+            let sum = read(&mut device, timing);
             (device, sum)
         }
     }
@@ -297,14 +297,14 @@ fn shut<D: Device, R: Book, C: Book>(engine: Engine<D, R, C>) -> Parts<D, R, C> 
     (device, register, cash)
 }
 
-fn fill<D: PoweredDevice, R: Book, C: Book>(mut parts: Parts<D, R, C>, trial: &Trial) -> (D, u64) {
+fn fill<D: PoweredDevice, R: Book, C: Book>(mut parts: Parts<D, R, C>, timing: &Timing) -> (D, u64) {
     let mut accepted = 0;
-    for _ in 0..trial.rounds {
+    for _ in 0..timing.rounds {
         let (mut device, register, cash) = parts;
         device.restart(u32::MAX, &[]);
-        let _ = journal::format(&mut device, trial.pairs, &register, &cash);
+        let _ = journal::format(&mut device, timing.pairs, &register, &cash);
         let mut engine = Engine::open(device, register, cash);
-        for (x, times) in [(trial.accepted, trial.entries), (trial.refused, trial.refusals)] {
+        for (x, times) in [(timing.accepted, timing.entries), (timing.refused, timing.refusals)] {
             for _ in 0..times {
                 accepted += u64::from(engine.instruct(&x).is_ok());
             }
@@ -325,11 +325,11 @@ fn reopen<D: Device, R: Book, C: Book>(mut parts: Parts<D, R, C>, rounds: u32) -
     (parts.0, found)
 }
 
-fn read(device: &mut impl Device, trial: &Trial) -> u64 {
+fn read(device: &mut impl Device, timing: &Timing) -> u64 {
     let mut block = [0; twin::device::BLOCK];
     let mut sum = 0u64;
-    for _ in 0..trial.rounds {
-        for number in 0..trial.blocks {
+    for _ in 0..timing.rounds {
+        for number in 0..timing.blocks {
             if device.read(number, &mut block).is_ok() {
                 for byte in &block {
                     sum = sum.wrapping_add(u64::from(*byte));

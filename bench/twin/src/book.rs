@@ -1,4 +1,4 @@
-//! Books: of every item, what each account has free and blocked.
+//! Books: what each account has of each item, free and blocked.
 
 use crate::fault::Refusal;
 
@@ -11,19 +11,19 @@ pub struct Cell {
     pub blocked: u64,
 }
 
-/// A book. A call that is refused changes nothing.
+/// A book. A refused call changes nothing.
 pub trait Book {
     fn kind(&self) -> u8;
     fn items(&self) -> u16;
-    /// No item's amounts, free and blocked over all accounts, total more than this.
+    /// The most that one item may come to, free and blocked, over all accounts.
     fn ceiling(&self) -> u64;
 
     fn clear(&mut self);
     fn credit(&mut self, account: u16, item: u16, quantity: u64) -> Result<(), Refusal>;
     fn block(&mut self, account: u16, item: u16, quantity: u64) -> Result<(), Refusal>;
-    /// Takes from what `from` has blocked and adds to what `to` has free.
+    /// From what `from` has blocked to what `to` has free.
     fn transfer(&mut self, from: u16, to: u16, item: u16, quantity: u64) -> Result<(), Refusal>;
-    /// What an account has of an item; the book has both.
+    /// What an account has of an item. The book has to have both.
     fn cell(&self, account: u16, item: u16) -> Cell;
 
     fn release(&mut self, account: u16, item: u16, quantity: u64) -> Result<(), Refusal> {
@@ -63,7 +63,7 @@ pub trait Book {
         Ok(())
     }
 
-    /// The checks of an account and an item: 21, 22.
+    /// The tests of an account and an item: 21, 22.
     fn check_cell(&self, account: u16, item: u16) -> Result<(), Refusal> {
         check_account(account)?;
         if item >= self.items() {
@@ -72,7 +72,7 @@ pub trait Book {
         Ok(())
     }
 
-    /// The checks that all changes have in common: 21, 22, 23.
+    /// The tests that all changes share: 21, 22, 23.
     fn check(&self, account: u16, item: u16, quantity: u64) -> Result<(), Refusal> {
         self.check_cell(account, item)?;
         if quantity == 0 {

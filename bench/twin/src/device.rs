@@ -9,7 +9,7 @@ pub const MOST_BLOCKS: usize = 65_535;
 
 pub type Bytes = [u8; BLOCK];
 
-/// A device of `size` blocks that takes a number of calls and no more.
+/// A device of `size` blocks that carries out a number of calls and no more.
 pub trait Device {
     fn read(&mut self, block: u32, buffer: &mut [u8]) -> Result<(), Fault>;
     fn write(&mut self, block: u32, bytes: &[u8]) -> Result<(), Fault>;
@@ -22,7 +22,7 @@ pub trait PoweredDevice: Device {
     fn restart(&mut self, calls: u32, remains: &[u8]);
 }
 
-/// An image in rows of one length, and the calls that are left: what both devices are made of, and the checks that they share.
+/// What both devices are made of: an image in rows of one length, and the calls left; with the tests that they share.
 #[derive(Clone, Debug)]
 struct Rows<const ROW: usize> {
     image: Vec<u8>,
@@ -40,7 +40,7 @@ impl<const ROW: usize> Rows<ROW> {
         &mut self.image[row * ROW..(row + 1) * ROW]
     }
 
-    /// Spends a call on a block, if it may be made, and gives the number of the block's row.
+    /// Tests a call of a block, and spends it if it may be made. Gives the number of the block's row.
     fn spend_on(&mut self, block: u32, length: usize) -> Result<usize, Fault> {
         let fault = |refusal: Refusal| Err(Fault::from(refusal).at_block(block));
         let row = block as usize;

@@ -22,13 +22,13 @@ pub struct Engine<D, R, C> {
 #[derive(Clone, Copy)]
 enum State {
     Open,
-    /// Power went while this instruction was written.
+    /// Power failed while this instruction was written.
     Down(Instruction),
     /// The opening was refused.
     Refused(Fault),
 }
 
-/// What is owed after a close: it is presented to the next engine, or filed.
+/// What a close gives. It has to be presented to a later engine, or filed.
 #[must_use = "a slip is owed: present it or file it"]
 #[derive(PartialEq, Eq, Debug)]
 pub struct Slip {
@@ -122,7 +122,7 @@ impl<D: Device, R: Book, C: Book> Engine<D, R, C> {
         self.ledger.carry_out(x)
     }
 
-    /// The checks of an instruct that spend no call: 41, 42, the rules' own, 36.
+    /// The tests of an instruct before its first call of the device: 41, 42, the rules' own, 36.
     fn accepts(&self, x: &Instruction) -> Result<(), Fault> {
         self.answers()?;
         if let State::Down(_) = self.state {
@@ -157,7 +157,7 @@ impl<D: Device, R: Book, C: Book> Engine<D, R, C> {
         Ok(self.entries)
     }
 
-    /// Judges a slip by what the opening found. A refused engine gives the slip back.
+    /// The verdict on a slip, by what the opening found. An engine whose opening was refused gives the slip back.
     pub fn present(&self, slip: Slip) -> Result<Verdict, (Fault, Slip)> {
         if let Err(fault) = self.answers() {
             return Err((fault, slip));

@@ -27,9 +27,9 @@ pub fn key(script: &[u8]) -> String {
 
 /// An examination that is under way.
 pub struct Exam {
-    /// There is one except while a cut is made.
+    /// Always there, except during a cut.
     engine: Option<ExamEngine>,
-    /// The last slip that was not unknown, while it is owed.
+    /// The newest slip that is not unknown, while it is owed.
     slip: Option<Slip>,
 }
 

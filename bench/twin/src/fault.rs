@@ -33,7 +33,7 @@ pub enum Refusal {
     TooLong = 73,
 }
 
-/// The part of the system that a refusal comes from.
+/// The part that refuses.
 #[derive(Clone, Copy, PartialEq, Eq, Debug)]
 pub enum Place {
     Device,
@@ -68,7 +68,7 @@ pub struct Fault {
     pub block: Option<u32>,
     pub entry: Option<u32>,
     pub trade: Option<u32>,
-    /// Under a refused journal entry (47), the rules' own refusal.
+    /// With 47, the rules' own refusal.
     pub ruling: Option<Refusal>,
 }
 

@@ -12,8 +12,8 @@ pub const FUND: u8 = 5;
 pub const SETTLE: u8 = 6;
 pub const FREE: u8 = 7;
 
-/// An instruction of any kind and with any fields: the rules judge those. Its fields lie in their order, so that a library can take
-/// it as it is.
+/// An instruction of any kind and with any fields; the rules judge them. The fields lie in memory in this order, as the static
+/// library expects.
 #[repr(C)]
 #[derive(Clone, Copy, Default, PartialEq, Eq, Debug)]
 pub struct Instruction {
@@ -38,7 +38,7 @@ impl Instruction {
         Instruction { kind: PAY_IN, account, currency, amount, ..Instruction::default() }
     }
 
-    /// An instruction of one of the kinds that state a trade and nothing else.
+    /// An instruction of one of the kinds that use the trade and no other field.
     pub fn of_trade(kind: u8, trade: u32) -> Instruction {
         Instruction { kind, trade, ..Instruction::default() }
     }

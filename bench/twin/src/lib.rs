@@ -1,4 +1,4 @@
-//! A second implementation of the settlement engine, written from its documents alone.
+//! A second implementation of the settlement engine, written from the pages in docs/ and not from the crates.
 //!
 //! From the bottom up: [`fault`] has the numbered refusals; [`book`] the balances and the numbered lots; [`instruction`]
 //! the 32 bytes of an instruction; [`ledger`] two books and the trades, under the rules; [`device`] block devices over an

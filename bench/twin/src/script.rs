@@ -67,7 +67,7 @@ fn four(field: &[u8]) -> Option<u32> {
     eight(field)?.try_into().ok()
 }
 
-/// A decimal number of eight bytes, with no leading zero and no sign.
+/// A decimal number that eight bytes can hold, without leading zeros or sign.
 fn eight(field: &[u8]) -> Option<u64> {
     if field.is_empty() || (field[0] == b'0' && field.len() > 1) {
         return None;

@@ -1,15 +1,15 @@
--- One holding of a table changed. Assumes nothing.
+-- One holding of a table changed.
 use Rattle.std.specs.Prelude.{◌≡◌, ℕ, ◌+◌, ◌-◌, ◌<◌, Bool, true, false, cond, List, [], length, get_or, ◌==◌, ◌≢◌, slice_index_or, slice_set, refl}
 use Rattle.std.proofs.Common.{sym, ap, ◌∙◌, ⊎_elim, arith}
 use Rattle.std.proofs.lemmas.List.{get_or-set_same, get_or-set_other, length-set}
 use Rattle.std.proofs.lemmas.Bool.{cases_eq, and_left, and_right, and_from, eq-eqb, ne_eqb}
 use Rattle.book.specs.declared.Holding.{Holding}
 use Rattle.book.specs.Sums.{is_place}
-use Rattle.book.specs.Holdings.{Holdings, apply, crediting, blocking, lowered}
+use Rattle.book.specs.Holdings.{Holdings, apply, crediting, blocking, less_at}
 use Rattle.book.proofs.Same.{holdings-same}
 use Rattle.book.proofs.Change.{kept-at, raised-at, lowered-at}
 use Rattle.book.specs.Rulings.{no_holding}
-use Rattle.balances.specs.Rows.{at, amounts, Full}
+use Rattle.balances.specs.Rows.{holding_in, amounts, IsWholeTable}
 
 abbrev pub put : List (List Holding) → ℕ → ℕ → Holding → List (List Holding)
 put rows A I h = slice_set rows I (slice_set (slice_index_or rows I []) A h)
@@ -29,7 +29,7 @@ module _ (rows : List (List Holding)) (A I : ℕ) (h : Holding) (li : I < length
   other-row : (i : ℕ) → (i ≢ I) → slice_index_or (put rows A I h) i [] ≡ slice_index_or rows i []
   other-row i ne = get_or-set_other rows I i (slice_set (slice_index_or rows I []) A h) [] ne
 
-  pub full-put : Full rows → Full (put rows A I h)
+  pub full-put : IsWholeTable rows → IsWholeTable (put rows A I h)
   full-put full = (
     length-set rows I (slice_set (slice_index_or rows I []) A h) ∙ full.0,
     λ i l.
@@ -37,7 +37,7 @@ module _ (rows : List (List Holding)) (A I : ℕ) (h : Holding) (li : I < length
         (λ ne. ap length (other-row i ne) ∙ full.1 i l) (cases_eq i I),
   )
 
-  pub at-put : A < length (slice_index_or rows I []) → (a i : ℕ) → at (put rows A I h) a i ≡ cond (is_place A I a i) h (at rows a i)
+  pub at-put : A < length (slice_index_or rows I []) → (a i : ℕ) → holding_in (put rows A I h) a i ≡ cond (is_place A I a i) h (holding_in rows a i)
   at-put la a i =
       ⊎_elim
       (λ e. let row = ap (λ r. get_or r a no_holding) (same-row i e) in
@@ -53,13 +53,13 @@ module _ (rows : List (List Holding)) (A I : ℕ) (h : Holding) (li : I < length
 
   -- the amounts of a book that agrees with h at the place, and elsewhere with what was there
   pub amounts-put : A < length (slice_index_or rows I []) → (c : Holdings)
-      → ((a i : ℕ) → cond (is_place A I a i) h.free (at rows a i).free ≡ c.free a i)
-      → ((a i : ℕ) → cond (is_place A I a i) h.blocked (at rows a i).blocked ≡ c.blocked a i)
+      → ((a i : ℕ) → cond (is_place A I a i) h.free (holding_in rows a i).free ≡ c.free a i)
+      → ((a i : ℕ) → cond (is_place A I a i) h.blocked (holding_in rows a i).blocked ≡ c.blocked a i)
       → amounts (put rows A I h) ≡ c
   amounts-put la c p q =
       holdings-same (amounts (put rows A I h)) c
-      (λ a i. ap (λ g. g.free) (at-put la a i) ∙ free-of (is_place A I a i) h (at rows a i) ∙ p a i)
-      (λ a i. ap (λ g. g.blocked) (at-put la a i) ∙ blocked-of (is_place A I a i) h (at rows a i) ∙ q a i)
+      (λ a i. ap (λ g. g.free) (at-put la a i) ∙ free-of (is_place A I a i) h (holding_in rows a i) ∙ p a i)
+      (λ a i. ap (λ g. g.blocked) (at-put la a i) ∙ blocked-of (is_place A I a i) h (holding_in rows a i) ∙ q a i)
 
 module _ (rows : List (List Holding)) (A I q : ℕ) (li : I < length rows) (la : A < length (slice_index_or rows I [])) where
   f : ℕ → ℕ → ℕ
@@ -68,15 +68,15 @@ module _ (rows : List (List Holding)) (A I q : ℕ) (li : I < length rows) (la :
   g : ℕ → ℕ → ℕ
   g = (amounts rows).blocked
 
-  pub put-credit : amounts (put rows A I (record { free = (at rows A I).free + q; blocked = (at rows A I).blocked })) ≡ apply (amounts rows) (crediting A I q)
+  pub put-credit : amounts (put rows A I (record { free = (holding_in rows A I).free + q; blocked = (holding_in rows A I).blocked })) ≡ apply (amounts rows) (crediting A I q)
   unfolding f g
   put-credit = amounts-put rows A I _ li la _ (raised-at f A I q) (kept-at g A I q)
 
-  pub put-block : amounts (put rows A I (record { free = (at rows A I).free - q; blocked = (at rows A I).blocked + q })) ≡ apply (amounts rows) (blocking A I q)
+  pub put-block : amounts (put rows A I (record { free = (holding_in rows A I).free - q; blocked = (holding_in rows A I).blocked + q })) ≡ apply (amounts rows) (blocking A I q)
   unfolding f g
   put-block = amounts-put rows A I _ li la _ (lowered-at f A I q) (raised-at g A I q)
 
   -- the first half of a transfer
-  pub put-lower : amounts (put rows A I (record { free = (at rows A I).free; blocked = (at rows A I).blocked - q })) ≡ record { free = (amounts rows).free; blocked = lowered (amounts rows).blocked A I q }
+  pub put-lower : amounts (put rows A I (record { free = (holding_in rows A I).free; blocked = (holding_in rows A I).blocked - q })) ≡ record { free = (amounts rows).free; blocked = less_at (amounts rows).blocked A I q }
   unfolding f g
   put-lower = amounts-put rows A I _ li la _ (kept-at f A I q) (lowered-at g A I q)

@@ -1,3 +1,3 @@
 pub mod Rows
 pub mod Meaning
-pub mod Outside
+pub mod OutsideLemmas

@@ -1,4 +1,4 @@
--- What a book of balances means. Assumes nothing.
+-- What a book of balances means.
 use Rattle.book.specs.Holdings.{Holdings}
 use Rattle.balances.specs.declared.table.Balances.{Balances}
 use Rattle.balances.specs.Rows.{amounts}

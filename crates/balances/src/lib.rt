@@ -1,4 +1,6 @@
-// A book of balances: 64 accounts with a free and a blocked amount of each of 16 items.
+//! A book of balances: each account has a free and a blocked amount of each item.
+//!
+//! It is a `Book` of kind 1, with 16 items that each total a million million at most.
 #![tactic(auto)]
 
 mod table;
@@ -6,20 +8,17 @@ mod table;
 ghost use Rattle.std.specs.Prelude.{◌≡◌};
 ghost use Rattle.std.proofs.Common.{ap, rules};
 ghost use Rattle.book.specs.Holdings.{nothing};
-ghost use Rattle.book.specs.Rulings.{amount_answer};
-ghost use Rattle.balances.specs.Rows.{balances_kind, at};
+ghost use Rattle.balances.specs.Rows.{balances_kind};
 ghost use Rattle.balances.specs.Meaning.{meaning};
-ghost use Rattle.balances.specs.Outside.{at-outside};
+ghost use Rattle.balances.specs.OutsideLemmas.{nothing-outside};
 
 use book::{ACCOUNTS, Book, Holding, covers};
 use refusals::Refusal;
 pub use table::Balances;
-
-const ITEMS: u16 = 16;
-
-const CEILING: u64 = 1_000_000_000_000;
+use table::{CEILING, ITEMS};
 
 impl Balances {
+    /// An empty book.
     pub fn new() -> Balances
         ensures { meaning result ≡ nothing }
     {
@@ -27,21 +26,8 @@ impl Balances {
             rows: [[Holding {
                 free: 0,
                 blocked: 0,
-            }; 64]; 16],
+            }; ACCOUNTS as usize]; ITEMS as usize],
         }
-    }
-
-    // What an account has of an item, where the book has both: each book tests for its own number of items.
-    fn held(&self, account: u16, item: u16) -> Result<Holding, Refusal>
-        ensures { result ≡ amount_answer balances_kind (at self.now.rows) account item }
-    {
-        if account >= ACCOUNTS {
-            return Err(Refusal::NoAccount);
-        }
-        if item >= ITEMS {
-            return Err(Refusal::NoItem);
-        }
-        Ok(self.rows[item as usize][account as usize])
     }
 }
 
@@ -53,7 +39,7 @@ impl Book for Balances {
     ghost within_limit = { Prim.search rules };
 
     ghost nothing_outside = { λ b account item out.
-        let e = at-outside b.rows b.full account item out in
+        let e = nothing-outside b.rows b.whole account item out in
         (ap (λ h. h.free) e, ap (λ h. h.blocked) e) };
 
     ghost kind_fits = { Prim.search rules };
@@ -71,11 +57,11 @@ impl Book for Balances {
     }
 
     fn block(&mut self, account: u16, item: u16, quantity: u64) -> Result<(), Refusal> {
-        let held = self.held(account, item)?;
-        covers(held.free, quantity, Refusal::OverFree)?;
+        let holding = self.holding(account, item)?;
+        covers(holding.free, quantity, Refusal::OverFree)?;
         self.rows[item as usize][account as usize] = Holding {
-            free: held.free - quantity,
-            blocked: held.blocked + quantity,
+            free: holding.free - quantity,
+            blocked: holding.blocked + quantity,
         };
         Ok(())
     }
@@ -84,20 +70,16 @@ impl Book for Balances {
         if to >= ACCOUNTS {
             return Err(Refusal::NoAccount);
         }
-        let held = self.held(from, item)?;
-        covers(held.blocked, quantity, Refusal::OverBlocked)?;
+        let holding = self.holding(from, item)?;
+        covers(holding.blocked, quantity, Refusal::OverBlocked)?;
         self.rows[item as usize][from as usize].blocked -= quantity;
         self.rows[item as usize][to as usize].free += quantity;
         Ok(())
     }
 
-    // The two questions differ in the field that they give: one function over a field would be no plainer.
-    fn free(&self, account: u16, item: u16) -> Result<u64, Refusal> {
-        self.held(account, item).map(|held| held.free)
-    }
-
-    fn blocked(&self, account: u16, item: u16) -> Result<u64, Refusal> {
-        self.held(account, item).map(|held| held.blocked)
+    fn holding(&self, account: u16, item: u16) -> Result<Holding, Refusal> {
+        self.check_place(account, item)?;
+        Ok(self.rows[item as usize][account as usize])
     }
 
     fn items(&self) -> u16 {

@@ -1,12 +1,19 @@
-// The table alone: a file of its own, since a struct with an invariant imports what its file does.
-ghost use Rattle.balances.specs.Rows.{Full, Within};
+// The table alone: a struct with an invariant imports what its file does.
+ghost use Rattle.balances.specs.Rows.{IsWholeTable, WithinCeiling};
 
-use book::Holding;
+use book::{ACCOUNTS, Holding};
 
-// Amounts by item and account. No item totals more than the ceiling over all accounts.
+// How many items the book has, numbered from 0.
+pub(crate) const ITEMS: u16 = 16;
+
+// The most that an item may total over all accounts.
+pub(crate) const CEILING: u64 = 1_000_000_000_000;
+
+/// A book of balances, in a table on the stack.
 #[derive(Drop)]
 pub struct Balances {
-    pub(crate) rows: [[Holding; 64]; 16],
-    ghost full: { Full rows },
-    ghost within: { Within rows },
+    // By item and account.
+    pub(crate) rows: [[Holding; ACCOUNTS as usize]; ITEMS as usize],
+    ghost whole: { IsWholeTable rows },
+    ghost within_ceiling: { WithinCeiling rows },
 }

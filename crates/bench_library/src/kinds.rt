@@ -9,13 +9,14 @@ use device::PoweredDevice;
 use lots::Lots;
 use simulated::Simulated;
 
+// A kind of device, which is made of an image and gives it back.
 pub(crate) trait DeviceKind: PoweredDevice {
     // the bytes of the image that a device is made from
     ghost image_of: { Self → List ℕ };
 
-    fn of_image(image: Vec<u8>, calls: u32) -> Self
+    fn of_image(image: Vec<u8>, calls_left: u32) -> Self
         ensures image { image_of result ≡ image.items }
-        ensures calls_left { (Self.Device.medium result).calls_left ≡ calls };
+        ensures calls_left { (Self.Device.medium result).calls_left ≡ calls_left };
 
     fn image(self) -> Vec<u8>
         ensures { result.items ≡ image_of self };
@@ -26,8 +27,8 @@ impl DeviceKind for Simulated {
 
     ghost image_of = { image_of };
 
-    fn of_image(image: Vec<u8>, calls: u32) -> Simulated {
-        Simulated::new(image, calls)
+    fn of_image(image: Vec<u8>, calls_left: u32) -> Simulated {
+        Simulated::new(image, calls_left)
     }
 
     fn image(self) -> Vec<u8> {
@@ -40,8 +41,8 @@ impl DeviceKind for Battery {
 
     ghost image_of = { image_of };
 
-    fn of_image(image: Vec<u8>, calls: u32) -> Battery {
-        Battery::new(image, calls)
+    fn of_image(image: Vec<u8>, calls_left: u32) -> Battery {
+        Battery::new(image, calls_left)
     }
 
     fn image(self) -> Vec<u8> {
@@ -49,6 +50,7 @@ impl DeviceKind for Battery {
     }
 }
 
+// A kind of book.
 pub(crate) trait BookKind: Book + Drop {
     // A book in which no account has anything.
     fn fresh() -> Self

@@ -1,5 +1,11 @@
-// The crates as a static library, for a program that compares them with another implementation, or times them. It carries out
-// whole lists of calls, so that devices and books never leave it: what crosses is rows of numbers, and the bytes of an image.
+//! The crates as a static library, which only the programs of bench/ use: they compare the proved
+//! engine with another implementation, or time it.
+//!
+//! A call of the library carries out a whole list of calls to a device, two books and an engine,
+//! so that none of these leave it: rows of numbers cross, and the bytes of an image. The contracts
+//! of [`bench_run`] and [`bench_time`] say what is answered and what is left where the work was
+//! not done. What it does with the calls is compared and not proved here: each of them is a call
+//! of a crate with its own contract.
 #![tactic(auto)]
 
 ghost use Rattle.std.specs.Prelude.{◌≡◌, ◌<◌, ◌≤◌, ◌≢◌, ◌⊎◌, ◌↔◌, false, length};
@@ -8,39 +14,40 @@ ghost use Rattle.bench_library.specs.Statuses.{is_listed};
 mod devices;
 mod engines;
 mod kinds;
-mod machine;
 mod rows;
+mod session;
 mod timing;
 mod work;
 
-use rows::{Answer, Call, Setup};
+use rows::{AnswerRow, CallRow, Setup};
 use std::alloc::Global;
-use timing::Trial;
+use timing::Timing;
 use work::{Work, carry_out};
 
-// Carries out calls, one after another, and answers each in the row of its place. The calls read from `data` and write to it.
-// The image is left as the device is at the end.
+/// Carries out calls in order, and answers each in the row of its place. The calls read from
+/// `data` and write to it. The image is left as the device is at the end.
+///
+/// It answers 0 where the calls were given, 1 where memory ran out, 2 where there is no such kind
+/// of device or book, and 3 where the device gives back an image of another length.
 #[unsafe(no_mangle)]
-pub extern "C" fn bindings_run(
+pub extern "C" fn bench_run(
     heap: Global,
     setup: &Setup,
     image: &mut [u8],
     data: &mut [u8],
-    calls: &[Call],
-    answers: &mut [Answer],
+    calls: &[CallRow],
+    answers: &mut [AnswerRow],
 ) -> u8
-    // 0 where the calls were given, 1 where memory was wanting, 2 where a kind is not listed, 3 where
-    // the device's image has another length in the end
     ensures status { result ≤ 3 }
 
     // 2 exactly where there is no such kind of device or of book
     ensures unlisted { (result ≡ 2) ↔ (is_listed setup.now ≡ false) }
 
-    // 1, want of memory, only where the image has a byte
+    // 1, out of memory, only where the image has a byte
     ensures memory { result ≡ 1 → 0 < length image.old }
     ensures image { (result ≢ 0) → image.new ≡ image.old }
 
-    // nothing was called where the kinds are not listed, or memory was wanted
+    // nothing was called where there is no such kind, or where memory ran out
     ensures bytes { (result ≡ 1) ⊎ (result ≡ 2) → «data».new ≡ «data».old }
     ensures answers { (result ≡ 1) ⊎ (result ≡ 2) → answers.new ≡ answers.old }
 {
@@ -50,26 +57,27 @@ pub extern "C" fn bindings_run(
     }
 }
 
-// Does what is to be timed, so many times, and tells how many instructions were accepted, how many entries found, or the sum of
-// the bytes read.
+/// Does what is to be timed as often as it says, and counts in `count` the instructions that were
+/// accepted, the entries that were found, or the sum of the bytes that were read.
+///
+/// It answers as [`bench_run`] does.
 #[unsafe(no_mangle)]
-pub extern "C" fn bindings_time(
+pub extern "C" fn bench_time(
     heap: Global,
     setup: &Setup,
     image: &mut [u8],
-    trial: &Trial,
-    told: &mut u64,
+    timing: &Timing,
+    count: &mut u64,
 ) -> u8
-    // the same statuses, 0 where it was done
     ensures status { result ≤ 3 }
     ensures unlisted { (result ≡ 2) ↔ (is_listed setup.now ≡ false) }
     ensures memory { result ≡ 1 → 0 < length image.old }
     ensures image { (result ≢ 0) → image.new ≡ image.old }
-    ensures told { (result ≢ 0) → told.new ≡ told.old }
+    ensures count { (result ≢ 0) → count.new ≡ count.old }
 {
-    match carry_out(setup, image, Work::Trial(trial), &mut [], &mut [], heap) {
-        Ok(count) => {
-            *told = count;
+    match carry_out(setup, image, Work::Timing(timing), &mut [], &mut [], heap) {
+        Ok(counted) => {
+            *count = counted;
             0
         }
         Err(status) => status.number(),

@@ -1,6 +1,7 @@
-// What crosses: rows of one size, of numbers alone.
+// The rows that cross: of one size each, and of numbers alone. bench/library has the same rows.
 ghost use Rattle.std.specs.Prelude.{◌≡◌, ◌+◌, ◌≤◌, ◌<◌, IfSome, IsNone};
-ghost use Rattle.bench_library.specs.Crossing.{instruction_of, fields_of, or_none, numbered, telling, refused, fault_row, refusal_row, value_row, holding_row, slip_row};
+ghost use Rattle.bench_library.specs.declared.rows.TheConstants.{MISFIT};
+ghost use Rattle.bench_library.specs.Crossing.{instruction_of, fields_of, or_none, number_row, values_row, fault_row, answer_row, ruling_row, value_row, holding_row, slip_row};
 
 use book::Holding;
 use engine::Contents;
@@ -8,30 +9,46 @@ use instruction::Instruction;
 use refusals::{Fault, Refusal};
 use std::ops::Range;
 
-// No block, no entry or no trade.
-const NONE: u64 = 18446744073709551615;
+// What stands for no block, no entry or no trade.
+pub(crate) const NONE: u64 = 18446744073709551615;
 
-// A device of a kind (0 simulated, 1 battery-backed) with a number of calls left, and books by their kind bytes.
+// The number of the answer to a call that does not fit what there is, as an instruct without an
+// engine.
+pub(crate) const MISFIT: u8 = 255;
+
+/// The device and the books that the calls are given to.
 #[repr(C)]
 #[derive(Clone, Copy)]
 pub struct Setup {
+    /// The kind of device: 0 simulated, 1 battery-backed.
     pub device: u8,
+    /// The register's kind byte: 1 balances, 2 lots.
     pub register: u8,
+    /// The cash book's kind byte.
     pub cash: u8,
-    pub calls: u32,
+    /// The number of calls that the device has left.
+    pub calls_left: u32,
 }
 
-// The fields of an instruction, of whatever kind, and of questions.
+/// The fields of an instruction of any kind, or of a question.
 #[repr(C)]
 #[derive(Clone, Copy, Default)]
 pub struct Fields {
+    /// The kind byte of an instruction.
     pub kind: u8,
+    /// The first account.
     pub account: u16,
+    /// The second account.
     pub counterparty: u16,
+    /// The item.
     pub item: u16,
+    /// The currency, an item of the cash book.
     pub currency: u16,
+    /// The trade's number.
     pub trade: u32,
+    /// How much of the item.
     pub quantity: u64,
+    /// How much of the currency.
     pub amount: u64,
 }
 
@@ -67,19 +84,26 @@ impl Fields {
     }
 }
 
-// One call: what is done, with its fields; a block, or a number of calls or pairs; and the part of the data that it takes.
+/// One call.
 #[repr(C)]
 #[derive(Clone, Copy)]
-pub struct Call {
+pub struct CallRow {
+    /// What is done, by the numbers of bench/library's `action`: 0 to 3 open, close and the slip,
+    /// 10 to 17 an engine, 20 to 25 a format and the device, 30 to 37 the register, 40 to 47 the
+    /// cash book.
     pub action: u8,
+    /// The instruction, or what is asked for.
     pub fields: Fields,
+    /// A block, a number of pairs, or a number of calls that a restart gives.
     pub number: u32,
+    /// Where in the data the call's bytes begin.
     pub from: u32,
+    /// How many bytes they are.
     pub length: u32,
 }
 
-impl Call {
-    // The places of its bytes in so much data, if all of them are there.
+impl CallRow {
+    // The places of its bytes in `room` bytes of data, if all of them are there.
     pub(crate) fn range(&self, room: usize) -> Option<Range<usize>>
         ensures start { IfSome result (λ r. r.start ≡ self.now.from) }
         ensures end { IfSome result (λ r. r.end ≡ self.now.from + self.now.length) }
@@ -95,21 +119,30 @@ impl Call {
     }
 }
 
-// What a call is answered: 0, a refusal's number or a verdict's, with what the fault names, or the values told.
+/// What a call is answered.
 #[repr(C)]
 #[derive(Clone, Copy)]
-pub struct Answer {
+pub struct AnswerRow {
+    /// 0, or the number of a refusal or of a verdict, or 255 where the call does not fit what
+    /// there is.
     pub number: u8,
+    /// The place of a refusal: 0 device, 1 book, 2 trades, 3 journal, 4 engine, 5 script.
     pub place: u8,
-    // the rules' own refusal, or 0
+    /// The number of the rules' own refusal of a record, or 0.
     pub rule: u8,
-    // whether there is an instruction in hand
+    /// 1 if there is an instruction in hand, else 0.
     pub in_hand: u8,
+    /// The block that a fault names, or the largest `u64` for none.
     pub block: u64,
+    /// The entry that a fault names, or the largest `u64` for none.
     pub entry: u64,
+    /// The trade that a fault names, or the largest `u64` for none.
     pub trade: u64,
+    /// The first value that was asked for.
     pub first: u64,
+    /// The second value.
     pub second: u64,
+    /// The instruction in hand.
     pub hand: Fields,
 }
 
@@ -122,12 +155,12 @@ fn or_none(named: Option<u32>) -> u64
     }
 }
 
-impl Answer {
+impl AnswerRow {
     // A number, and nothing else.
-    pub(crate) fn of_number(number: u8) -> Answer
-        ensures { result ≡ numbered number }
+    pub(crate) fn of_number(number: u8) -> AnswerRow
+        ensures { result ≡ number_row number }
     {
-        Answer {
+        AnswerRow {
             number,
             place: 0,
             rule: 0,
@@ -142,26 +175,26 @@ impl Answer {
     }
 
     // The call does not fit what there is.
-    pub(crate) fn misfit() -> Answer
-        ensures { result ≡ numbered 255 }
+    pub(crate) fn misfit() -> AnswerRow
+        ensures { result ≡ number_row MISFIT }
     {
-        Answer::of_number(255)
+        AnswerRow::of_number(MISFIT)
     }
 
-    pub(crate) fn telling(first: u64, second: u64) -> Answer
-        ensures { result ≡ telling first second }
+    pub(crate) fn of_values(first: u64, second: u64) -> AnswerRow
+        ensures { result ≡ values_row first second }
     {
-        Answer {
+        AnswerRow {
             first,
             second,
-            ..Answer::of_number(0)
+            ..AnswerRow::of_number(0)
         }
     }
 
-    fn refused(fault: Fault) -> Answer
-        ensures { result ≡ refused fault }
+    fn of_fault(fault: Fault) -> AnswerRow
+        ensures { result ≡ fault_row fault }
     {
-        Answer {
+        AnswerRow {
             place: fault.place() as u8,
             rule: match fault.rule {
                 Some(refusal) => refusal.number(),
@@ -170,60 +203,60 @@ impl Answer {
             block: or_none(fault.block),
             entry: or_none(fault.entry),
             trade: or_none(fault.trade),
-            ..Answer::of_number(fault.number())
+            ..AnswerRow::of_number(fault.number())
         }
     }
 
-    pub(crate) fn of_fault(answer: Result<(), Fault>) -> Answer
-        ensures { result ≡ fault_row answer }
+    pub(crate) fn of_answer(answer: Result<(), Fault>) -> AnswerRow
+        ensures { result ≡ answer_row answer }
     {
         match answer {
-            Ok(()) => Answer::of_number(0),
-            Err(fault) => Answer::refused(fault),
+            Ok(()) => AnswerRow::of_number(0),
+            Err(fault) => AnswerRow::of_fault(fault),
         }
     }
 
-    pub(crate) fn of_refusal(answer: Result<(), Refusal>) -> Answer
-        ensures { result ≡ refusal_row answer }
+    pub(crate) fn of_ruling(answer: Result<(), Refusal>) -> AnswerRow
+        ensures { result ≡ ruling_row answer }
     {
         match answer {
-            Ok(()) => Answer::of_number(0),
-            Err(refusal) => Answer::refused(refusal.into()),
+            Ok(()) => AnswerRow::of_number(0),
+            Err(refusal) => AnswerRow::of_fault(refusal.into()),
         }
     }
 
-    pub(crate) fn of_value(answer: Result<u64, Refusal>) -> Answer
+    pub(crate) fn of_value(answer: Result<u64, Refusal>) -> AnswerRow
         ensures { result ≡ value_row answer }
     {
         match answer {
-            Ok(value) => Answer::telling(value, 0),
-            Err(refusal) => Answer::refused(refusal.into()),
+            Ok(value) => AnswerRow::of_values(value, 0),
+            Err(refusal) => AnswerRow::of_fault(refusal.into()),
         }
     }
 
-    pub(crate) fn of_holding(answer: Result<Holding, Refusal>) -> Answer
+    pub(crate) fn of_holding(answer: Result<Holding, Refusal>) -> AnswerRow
         ensures { result ≡ holding_row answer }
     {
         match answer {
-            Ok(holding) => Answer::telling(holding.free, holding.blocked),
-            Err(refusal) => Answer::refused(refusal.into()),
+            Ok(holding) => AnswerRow::of_values(holding.free, holding.blocked),
+            Err(refusal) => AnswerRow::of_fault(refusal.into()),
         }
     }
 
-    // What a slip holds: whether it tells anything, how many entries, and what is in hand.
-    pub(crate) fn of_slip(holds: Option<Contents>) -> Answer
+    // What a slip holds: whether it is known, how many entries, and what is in hand.
+    pub(crate) fn of_slip(holds: Option<Contents>) -> AnswerRow
         ensures { result ≡ slip_row holds }
     {
         let Some(holds) = holds else {
-            return Answer::telling(0, 0);
+            return AnswerRow::of_values(0, 0);
         };
-        let told = Answer::telling(1, holds.entries.into());
+        let row = AnswerRow::of_values(1, holds.entries.into());
         match holds.hand {
-            None => told,
-            Some(x) => Answer {
+            None => row,
+            Some(x) => AnswerRow {
                 in_hand: 1,
                 hand: Fields::of_instruction(x),
-                ..told
+                ..row
             },
         }
     }

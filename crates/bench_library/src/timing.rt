@@ -1,26 +1,34 @@
-// What is to be timed, over and over, so that the time of one is the difference of two runs.
+// What is to be timed. It is done many times over, so that the time of one is the difference of
+// two runs.
 use crate::rows::Fields;
 use book::Book;
 use device::{BLOCK_SIZE, Device, PoweredDevice};
 use engine::Engine;
 use journal::format;
 
-// The trial: 0 fills journals, 1 opens the journal that is there, 2 reads its blocks; and how often. A journal to be filled has
-// so many pairs, and is given so many instructions that are accepted and then so many that are refused.
+/// What is to be timed, and how often.
 #[repr(C)]
 #[derive(Clone, Copy)]
-pub struct Trial {
+pub struct Timing {
+    /// 0 fills journals, 1 opens the journal that is there, 2 reads its blocks.
     pub what: u8,
+    /// How often it is done.
     pub rounds: u32,
+    /// The number of pairs of a journal to be filled.
     pub pairs: u32,
+    /// How many instructions it is given that are accepted.
     pub entries: u32,
+    /// How many instructions it is given then that are refused.
     pub refusals: u32,
+    /// How many blocks are read.
     pub blocks: u32,
+    /// The instruction that is accepted.
     pub accepted: Fields,
+    /// The instruction that is refused.
     pub refused: Fields,
 }
 
-// Gives an instruction so many times, and answers how often it was accepted.
+// Gives an instruction so many times, and counts how often it is accepted.
 fn give<D: Device, R: Book, C: Book>(
     engine: &mut Engine<D, R, C>,
     fields: &Fields,
@@ -43,16 +51,16 @@ fn shut<D: Device, R: Book, C: Book>(engine: Engine<D, R, C>) -> (D, R, C) {
     (device, register, cash)
 }
 
-fn fill<D: PoweredDevice, R: Book, C: Book>(parts: (D, R, C), trial: &Trial) -> ((D, R, C), u64) {
+fn fill<D: PoweredDevice, R: Book, C: Book>(parts: (D, R, C), timing: &Timing) -> ((D, R, C), u64) {
     let mut parts = parts;
     let mut accepted = 0u64;
-    for _ in 0..trial.rounds {
+    for _ in 0..timing.rounds {
         let (mut device, register, cash) = parts;
         device.restart(u32::MAX, &[]);
-        let _ = format(&mut device, trial.pairs, register.kind(), cash.kind());
+        let _ = format(&mut device, timing.pairs, register.kind(), cash.kind());
         let mut engine = Engine::open(device, register, cash);
-        accepted = accepted.wrapping_add(give(&mut engine, &trial.accepted, trial.entries));
-        accepted = accepted.wrapping_add(give(&mut engine, &trial.refused, trial.refusals));
+        accepted = accepted.wrapping_add(give(&mut engine, &timing.accepted, timing.entries));
+        accepted = accepted.wrapping_add(give(&mut engine, &timing.refused, timing.refusals));
         parts = shut(engine);
     }
     (parts, accepted)
@@ -60,14 +68,14 @@ fn fill<D: PoweredDevice, R: Book, C: Book>(parts: (D, R, C), trial: &Trial) -> 
 
 fn reopen<D: Device, R: Book, C: Book>(parts: (D, R, C), rounds: u32) -> ((D, R, C), u64) {
     let mut parts = parts;
-    let mut found = 0u64;
+    let mut found_sum = 0u64;
     for _ in 0..rounds {
         let (device, register, cash) = parts;
         let engine = Engine::open(device, register, cash);
-        found = found.wrapping_add(engine.found().into());
+        found_sum = found_sum.wrapping_add(engine.found().into());
         parts = shut(engine);
     }
-    (parts, found)
+    (parts, found_sum)
 }
 
 fn sum_of(block: &[u8; BLOCK_SIZE]) -> u64 {
@@ -78,12 +86,13 @@ fn sum_of(block: &[u8; BLOCK_SIZE]) -> u64 {
     sum
 }
 
-// Reads the blocks in order, and sums their bytes: of a block that nobody looks at the copy would be left out.
-fn read<D: Device>(device: &mut D, trial: &Trial) -> u64 {
+// Reads the blocks in order, and sums their bytes. Without the sum the compiler could leave out
+// the copy of a block.
+fn read<D: Device>(device: &mut D, timing: &Timing) -> u64 {
     let mut block = [0; BLOCK_SIZE];
     let mut sum = 0u64;
-    for _ in 0..trial.rounds {
-        for number in 0..trial.blocks {
+    for _ in 0..timing.rounds {
+        for number in 0..timing.blocks {
             if device.read(number, &mut block).is_ok() {
                 sum = sum.wrapping_add(sum_of(&block));
             }
@@ -94,14 +103,14 @@ fn read<D: Device>(device: &mut D, trial: &Trial) -> u64 {
 
 pub(crate) fn time<D: PoweredDevice, R: Book, C: Book>(
     parts: (D, R, C),
-    trial: &Trial,
+    timing: &Timing,
 ) -> ((D, R, C), u64) {
-    match trial.what {
-        0 => fill(parts, trial),
-        1 => reopen(parts, trial.rounds),
+    match timing.what {
+        0 => fill(parts, timing),
+        1 => reopen(parts, timing.rounds),
         _ => {
             let (mut device, register, cash) = parts;
-            let sum = read(&mut device, trial);
+            let sum = read(&mut device, timing);
             ((device, register, cash), sum)
         }
     }

@@ -1,31 +1,33 @@
-// A device is made of an image, the work is done on it and on two fresh books, and the image goes back.
+// The work: a device is made of a copy of the image, calls are given to it and to two fresh books,
+// and the image that it gives back is copied out.
 ghost use Rattle.std.specs.Prelude.{◌≡◌, true};
-ghost use Rattle.bench_library.specs.Statuses.{status_number, status_of, are_books, is_listed, Carried};
+ghost use Rattle.bench_library.specs.Statuses.{status_number, status_of, are_books, is_listed, CarriesOut};
 
 use crate::kinds::{BookKind, DeviceKind};
-use crate::machine::Machine;
-use crate::rows::{Answer, Call, Setup};
-use crate::timing::{Trial, time};
+use crate::rows::{AnswerRow, CallRow, Setup};
+use crate::session::Session;
+use crate::timing::{Timing, time};
 use balances::Balances;
 use battery::Battery;
 use lots::Lots;
 use simulated::Simulated;
 use std::alloc::{AllocError, Global};
 
-// Calls to be carried out, or what is to be timed.
+// Calls to carry out, or what is to be timed.
 #[derive(Clone, Copy)]
 pub(crate) enum Work<'a> {
-    Calls(&'a [Call]),
-    Trial(&'a Trial),
+    Calls(&'a [CallRow]),
+    Timing(&'a Timing),
 }
 
 // Why the work was not done.
 #[derive(Clone, Copy)]
 pub(crate) enum Status {
+    // Memory for the copy of the image ran out.
     NoMemory = 1,
-    // no such kind of device or book
+    // There is no such kind of device or book.
     Unlisted = 2,
-    // the device's image has another length than it had
+    // The device gives back an image of another length.
     OtherLength = 3,
 }
 
@@ -51,19 +53,19 @@ fn do_work<D: DeviceKind, R: BookKind, C: BookKind>(
     device: D,
     work: Work<'_>,
     data: &mut [u8],
-    answers: &mut [Answer],
+    answers: &mut [AnswerRow],
 ) -> (D, u64) {
     let parts = (device, R::fresh(), C::fresh());
-    let (parts, told) = match work {
-        Work::Trial(trial) => time(parts, trial),
+    let (parts, count) = match work {
+        Work::Timing(timing) => time(parts, timing),
         Work::Calls(calls) => {
             let (device, register, cash) = parts;
-            let machine = Machine::new(device, register, cash);
-            (machine.run(calls, data, answers).finish(), 0)
+            let session = Session::new(device, register, cash);
+            (session.run(calls, data, answers).finish(), 0)
         }
     };
     let (device, _, _) = parts;
-    (device, told)
+    (device, count)
 }
 
 fn on_image<D: DeviceKind, R: BookKind, C: BookKind>(
@@ -71,22 +73,22 @@ fn on_image<D: DeviceKind, R: BookKind, C: BookKind>(
     image: &mut [u8],
     work: Work<'_>,
     data: &mut [u8],
-    answers: &mut [Answer],
+    answers: &mut [AnswerRow],
     heap: Global,
 ) -> Result<u64, Status>
-    ensures { Carried true image.old image.new «data».old «data».new answers.old answers.new
+    ensures { CarriesOut true image.old image.new «data».old «data».new answers.old answers.new
         (status_of result) }
 {
     let mut copy = Vec::new(heap);
     copy.extend_from_slice(image)?;
-    let device = D::of_image(copy, setup.calls);
-    let (device, told) = do_work::<D, R, C>(device, work, data, answers);
+    let device = D::of_image(copy, setup.calls_left);
+    let (device, count) = do_work::<D, R, C>(device, work, data, answers);
     let after = device.image();
     if after.len() != image.len() {
         return Err(Status::OtherLength);
     }
     image.copy_from_slice(after.as_slice());
-    Ok(told)
+    Ok(count)
 }
 
 fn on_device<D: DeviceKind>(
@@ -94,10 +96,10 @@ fn on_device<D: DeviceKind>(
     image: &mut [u8],
     work: Work<'_>,
     data: &mut [u8],
-    answers: &mut [Answer],
+    answers: &mut [AnswerRow],
     heap: Global,
 ) -> Result<u64, Status>
-    ensures { Carried (are_books setup.now.register setup.now.cash)
+    ensures { CarriesOut (are_books setup.now.register setup.now.cash)
         image.old image.new «data».old «data».new answers.old answers.new (status_of result) }
 {
     match (setup.register, setup.cash) {
@@ -114,10 +116,10 @@ pub(crate) fn carry_out(
     image: &mut [u8],
     work: Work<'_>,
     data: &mut [u8],
-    answers: &mut [Answer],
+    answers: &mut [AnswerRow],
     heap: Global,
 ) -> Result<u64, Status>
-    ensures { Carried (is_listed setup.now)
+    ensures { CarriesOut (is_listed setup.now)
         image.old image.new «data».old «data».new answers.old answers.new (status_of result) }
 {
     match setup.device {

@@ -1,11 +1,11 @@
--- What an accepted deed tells of its book, and what it leaves. Assumes nothing.
+-- What an accepted deed tells of its book, and what it leaves.
 use Rattle.std.proofs.Common.{◌≡◌, ℕ, ◌+◌, ◌<◌, ◌≤◌, Bool, true, false, cond, ◌||◌, eqb, ltb, leb, List, [], ◌∷◌, Ok, Err, Result, refl, sym, ap, ◌∙◌, arith}
 use Rattle.std.proofs.lemmas.Bool.{leb-false, ltb-false, eqb-false, lt-leb, le-ltb, ne_eqb, or_parts}
 use Rattle.refusals.specs.declared.Refusal.{Refusal}
 use Rattle.refusals.specs.declared.Refusal.TheVariants.{NoAccount, NoItem, NoQuantity}
 use Rattle.book.specs.Holdings.{Holdings, BookKind, total, limit, Deed, no_change, crediting, blocking, releasing, moving, apply}
 use Rattle.refusals.specs.Answers.{if_ok}
-use Rattle.book.specs.Rulings.{Check, ◌refuses◌, first_refusal, checks, ruling, outcome, amount_answer, covering}
+use Rattle.book.specs.Rulings.{Check, ◌refuses◌, first_refusal, checks, ruling, outcome, amount_answer, cover_answer}
 use Rattle.book.proofs.Asked.{asked-within}
 use Rattle.book.proofs.Totals.{credit-below, total-block, total-release, total-move}
 
@@ -31,7 +31,7 @@ asked-part g k f a i x e =
     let p = asked-ok k f a i x e in
     ap (λ y. Ok (g y)) p.2 ∙ sym (asked-within k (λ a i. g (f a i)) a i p.0 p.1)
 
-pub covers-ok : (n q : ℕ) (short : Refusal) → Ok tt ≡ covering n q short → (0 < q) × (q ≤ n)
+pub covers-ok : (n q : ℕ) (short : Refusal) → Ok tt ≡ cover_answer n q short → (0 < q) × (q ≤ n)
 covers-ok n q short e =
     let p = pass (eqb q 0) NoQuantity (cond (ltb n q) (Err short) (Ok tt)) e in
     let r = pass (ltb n q) short (Ok tt) p.1 in

@@ -1,4 +1,4 @@
--- What a question within a book's range is answered. Assumes nothing.
+-- What a question within a book's range is answered.
 use Rattle.std.proofs.Common.{◌≡◌, ℕ, ◌+◌, ◌<◌, ◌≤◌, Ok, ap, arith}
 use Rattle.std.proofs.lemmas.Bool.{lt-leb}
 use Rattle.book.specs.declared.Holding.{Holding}

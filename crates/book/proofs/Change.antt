@@ -1,8 +1,8 @@
--- One amount changed, as a choice by account and item. Assumes nothing.
+-- One amount changed, as a choice by account and item.
 use Rattle.std.proofs.Common.{◌≡◌, ℕ, ◌+◌, ◌-◌, true, false, cond, ◌&&◌, eqb, ◌⊎◌, sym, refl, ap, ◌∙◌, inl, inr, ⊎_elim, arith}
 use Rattle.std.proofs.lemmas.Bool.{eqb-true, eq-eqb, ne_eqb, cases_Bool, and_parts, and_right}
 use Rattle.book.specs.Sums.{is_place}
-use Rattle.book.specs.Holdings.{raised, lowered}
+use Rattle.book.specs.Holdings.{more_at, less_at}
 
 -- either the account and the item are the ones meant, or nothing changes there
 pub here-or-not : (A I a i : ℕ) → ((is_place A I a i ≡ true) × (A ≡ a) × (I ≡ i)) ⊎ (is_place A I a i ≡ false)
@@ -24,8 +24,8 @@ module _ (f : ℕ → ℕ → ℕ) (A I q a i : ℕ) where
   pub kept-at : cond (is_place A I a i) (f A I) (f a i) ≡ f a i
   kept-at = ⊎_elim (λ e. rw e.0 (at-place e.1 e.2)) (λ e. rw e) (here-or-not A I a i)
 
-  pub raised-at : cond (is_place A I a i) (f A I + q) (f a i) ≡ raised f A I q a i
+  pub raised-at : cond (is_place A I a i) (f A I + q) (f a i) ≡ more_at f A I q a i
   raised-at = ⊎_elim (λ e. rw e.0 (ap (λ n. n + q) (at-place e.1 e.2))) (λ e. rw e (omega arith)) (here-or-not A I a i)
 
-  pub lowered-at : cond (is_place A I a i) (f A I - q) (f a i) ≡ lowered f A I q a i
+  pub lowered-at : cond (is_place A I a i) (f A I - q) (f a i) ≡ less_at f A I q a i
   lowered-at = ⊎_elim (λ e. rw e.0 (ap (λ n. n - q) (at-place e.1 e.2))) (λ e. rw e (omega arith)) (here-or-not A I a i)

@@ -1,4 +1,4 @@
--- Two books with the same amounts are the same. Assumes nothing.
+-- Two books with the same amounts are the same.
 use Rattle.std.proofs.Common.{◌≡◌, ℕ}
 use Rattle.book.specs.Holdings.{Holdings}
 

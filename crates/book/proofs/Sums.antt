@@ -1,4 +1,4 @@
--- Sums over the numbers below n. Assumes nothing.
+-- Sums over the numbers below n.
 use Rattle.std.proofs.Common.{◌≡◌, ℕ, zero, suc, ◌+◌, ◌<◌, ◌≤◌, sym, refl, ap, ⊎_elim, add-one, arith}
 use Rattle.std.proofs.lemmas.Bool.{cases_eq}
 use Rattle.book.specs.Sums.{sum_below}

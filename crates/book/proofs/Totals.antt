@@ -1,4 +1,4 @@
--- What a deed does to an item's total over all accounts. Assumes nothing.
+-- What a deed does to an item's total over all accounts.
 use Rattle.std.proofs.Common.{◌≡◌, ℕ, ◌+◌, ◌<◌, ◌≤◌, true, false, ◌&&◌, eqb, sym, refl, ap, ◌∙◌, ⊎_elim, arith}
 use Rattle.std.proofs.lemmas.Bool.{eqb-true, eq-eqb, ne_eqb, cases_Bool, and_parts}
 use Rattle.book.specs.Sums.{sum_below, amount_if, is_place}

@@ -1,5 +1,6 @@
-// A book in a box is the book in it, and moves at the cost of a pointer.
-use crate::Book;
+//! A book in a box is the book in it, and moves at the cost of a pointer.
+
+use crate::{Book, Holding};
 use refusals::Refusal;
 
 impl<B: Book> Book for Box<B> {
@@ -21,6 +22,10 @@ impl<B: Book> Book for Box<B> {
 
     fn transfer(&mut self, from: u16, to: u16, item: u16, quantity: u64) -> Result<(), Refusal> {
         (**self).transfer(from, to, item, quantity)
+    }
+
+    fn holding(&self, account: u16, item: u16) -> Result<Holding, Refusal> {
+        (**self).holding(account, item)
     }
 
     fn free(&self, account: u16, item: u16) -> Result<u64, Refusal> {

@@ -1,5 +1,5 @@
--- One trade from its Issue to its Settle, what its seller and its buyer have then, and answers to single
--- instructions. Every number here was worked out by hand from the rules, none taken from the program.
+-- One trade, what its seller and its buyer have when it is settled, and answers to instructions.
+-- Every number was worked out by hand from the rules; none was taken from the program.
 use Rattle.std.specs.Prelude.{◌≡◌, ℕ, List, [], ◌∷◌, ◌++◌, fold, map}
 use Rattle.refusals.specs.Numbers.{answer_number}
 use Rattle.instruction.specs.declared.Instruction.{Instruction}
@@ -26,8 +26,8 @@ of_fields k a b i c t q m = record {
 abbrev pub two_balances : Rulebook
 two_balances = rulebook_of balances_kind balances_kind
 
--- Account 1 is issued 100 of item 3, and 5,000 of currency 4 are paid in for account 2. In trade 7 the
--- first sells all its 100 to the second for 2,000. The trade is earmarked, funded and settled.
+-- Account 1 is issued 100 of item 3, and 5,000 of currency 4 are paid in for account 2. In trade 7
+-- the first sells all its 100 to the second for 2,000. The trade is earmarked, funded and settled.
 abbrev pub trade_7 : List Instruction
 trade_7 =
     of_fields 1 1 0 3 0 0 100 0 ∷ of_fields 2 2 0 0 4 0 0 5000 ∷ of_fields 3 1 2 3 4 7 100 2000
@@ -37,8 +37,8 @@ trade_7 =
 abbrev pub standing_after : List Instruction → Standing
 standing_after xs = fold (step two_balances) empty xs
 
--- By hand: of the item the seller has none and the buyer 100; of the currency the seller has 2,000 and
--- the buyer the other 3,000. Nothing is blocked any more.
+-- By hand: of the item the seller has none and the buyer 100; of the currency the seller has 2,000
+-- and the buyer the other 3,000. Nothing is blocked any more.
 pub record HasEightAmounts (s : Standing) : Type 0 where
   pub seller-item-free : (s.book securities).free 1 3 ≡ 0
   pub seller-item-blocked : (s.book securities).blocked 1 3 ≡ 0
@@ -58,12 +58,13 @@ eight_amounts = record {
   buyer_currency = record { free = 3000; blocked = 0 };
 }
 
--- Then account 2 sells to account 1: in trade 8, which is entered, 51 of item 3 for 1 of currency 4; in
--- trade 9, which is earmarked, 50 of it for 2,001. So 50 of account 2's 100 stay free.
+-- Then account 2 sells to account 1: in trade 8, which is entered, 51 of item 3 for 1 of currency
+-- 4; in trade 9, which is earmarked, 50 of it for 2,001. So 50 of account 2's 100 stay free.
 abbrev pub three_trades : List Instruction
 three_trades =
     trade_7
-    ++ (of_fields 3 2 1 3 4 8 51 1 ∷ of_fields 3 2 1 3 4 9 50 2001 ∷ of_fields 4 0 0 0 0 9 0 0 ∷ [])
+    ++ (of_fields 3 2 1 3 4 8 51 1 ∷ of_fields 3 2 1 3 4 9 50 2001
+    ∷ of_fields 4 0 0 0 0 9 0 0 ∷ [])
 
 -- after those, each of these instructions is answered this number
 abbrev pub AreAnswered : ℕ → List Instruction → Type 0
@@ -116,4 +117,5 @@ pub record AnswersByHand : Type 0 where
   -- by hand: credits up to the ceiling; a new trade; trades 8 and 9 freed
   pub accepted : AreAnswered 0 (
       of_fields 1 63 0 3 0 0 999999999900 0 ∷ of_fields 2 63 0 0 4 0 0 999999995000
-      ∷ of_fields 3 1 63 15 15 127 1 1 ∷ of_fields 7 0 0 0 0 8 0 0 ∷ of_fields 7 0 0 0 0 9 0 0 ∷ [])
+      ∷ of_fields 3 1 63 15 15 127 1 1 ∷ of_fields 7 0 0 0 0 8 0 0
+      ∷ of_fields 7 0 0 0 0 9 0 0 ∷ [])

@@ -1,5 +1,5 @@
--- The trials whose results are proved, a row each. Every expected result was worked out by hand from the
--- rules; none was taken from what the program answers.
+-- The trials whose results are proved, a row each.
+-- Every expected result was worked out by hand from the rules; none was taken from the program.
 use Rattle.std.specs.Prelude.{◌≡◌, ℕ, ◌<◌, false, List, ◌∷◌, ◌++◌, replicate}
 use Rattle.refusals.specs.Numbers.{answer_number}
 use Rattle.instruction.specs.declared.Kind.TheVariants.{Earmark, Settle}

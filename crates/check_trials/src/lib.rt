@@ -1,8 +1,9 @@
 //! Trials with known results, made on the engine's own books, ledger, instructions and marks.
 //!
-//! This crate checks; nothing is built on it. `proved_trials` promises the results: `outcomes` are those
-//! that the code gives, and `rows` states each trial as a theorem about the rules, for every account and
-//! item where that makes sense. All expected results were worked out by hand from the rules.
+//! This crate checks; nothing is built on it. `proved_trials` promises the results: `outcomes` are
+//! those that the code gives, and `rows` states each trial as a theorem about the rules, for every
+//! account and item where that makes sense. All expected results were worked out by hand from the
+//! rules.
 #![tactic(auto)]
 
 ghost use Rattle.std.specs.Prelude.{◌≡◌};
@@ -106,8 +107,8 @@ fn same_parties() -> u8
     fault_number(ledger.answer_to(&x))
 }
 
-// Account 1 sells 100 of item 3 to account 2 for 2,000 of currency 4, from the Issue and the Pay in to
-// the Settle.
+// Account 1 sells 100 of item 3 to account 2 for 2,000 of currency 4, from the Issue and the Pay
+// in to the Settle.
 fn settle_a_trade() -> Settlement
     ensures { result ≡ eight_amounts }
 {
@@ -148,8 +149,8 @@ fn settle_a_trade() -> Settlement
     }
 }
 
-/// Makes each trial that needs no more than a fresh book, ledger, instruction or mark. Its contract has
-/// the results of all of them.
+/// Makes each trial that needs no more than a fresh book, ledger, instruction or mark. Its
+/// contract has the results of all of them.
 pub fn proved_trials() -> Outcomes
     ensures outcomes { result ≡ expected_outcomes }
     ensures rows { ProvedTrials }

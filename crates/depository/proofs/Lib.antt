@@ -1,6 +1,6 @@
-pub mod Kept
-pub mod Instructed
-pub mod Reopened
+pub mod KeepsTally
+pub mod Instructing
+pub mod Reopening
 pub mod Survival
 pub mod Runs
 pub mod Starts

@@ -21,7 +21,7 @@ use Rattle.depository.specs.declared.calls.Reply.TheVariants.{ToInstruct}
 use Rattle.depository.specs.Orders.{Order, instruct_order, close_order, restart_order, open_order, ask_order}
 use Rattle.depository.specs.Moments.{Phase, running, shut, Moment, moment_in}
 use Rattle.depository.specs.Calling.{Yields, LeadsTo}
-use Rattle.depository.specs.Handling.{medium_in, Handled}
+use Rattle.depository.specs.DeviceUse.{medium_in, UsesDevice}
 use Rattle.depository.proofs.Determined.{IsDetermined}
 use Rattle.depository.specs.Paths.{Path, no_calls, first_call}
 use Rattle.depository.specs.Survival.{RunFromFormat}
@@ -61,7 +61,7 @@ module _ {D S : Type 0} (makes : D → DeviceCall → D → Type 0) (means : D �
   same-medium {e} {e'} s p q = sym p ∙ z.meaning e e' s ∙ q
 
   module _ {r r' : Reply} {b b' : Moment} {d d' e e' : D} (s : seen d ≡ seen d') (t : means e ≡ medium_in b.phase) (t' : means e' ≡ medium_in b'.phase) where
-    running-one : (v : View) (l : Option Contents) (c : Order) → LeadsTo h most (moment_in (running v) l) c r b → LeadsTo h most (moment_in (running v) l) c r' b' → Handled makes h (running v) c d e → Handled makes h (running v) c d' e' → Same r r' b b' e e'
+    running-one : (v : View) (l : Option Contents) (c : Order) → LeadsTo h most (moment_in (running v) l) c r b → LeadsTo h most (moment_in (running v) l) c r' b' → UsesDevice makes h (running v) c d e → UsesDevice makes h (running v) c d' e' → Same r r' b b' e e'
     running-one v l (instruct_order x) one two k k' =
         let q = traced-fixed makes seen z.fixed (instruct_calls h x v) d d' e e' k k' s in
         let medium : one.after.medium ≡ two.after.medium = same-medium q (t ∙ ap (λ n. medium_in n.phase) one.yields.moment) (t' ∙ ap (λ n. medium_in n.phase) two.yields.moment) in
@@ -76,7 +76,7 @@ module _ {D S : Type 0} (makes : D → DeviceCall → D → Type 0) (means : D �
     running-one v l open_order one two k k' = still one two (kept-device k k' s)
     running-one v l (ask_order q) one two k k' = still one two (kept-device k k' s)
 
-    shut-one : (m : Medium) (books : Side → Holdings) (l : Option Contents) (c : Order) → LeadsTo h most (moment_in (shut m books) l) c r b → LeadsTo h most (moment_in (shut m books) l) c r' b' → Handled makes h (shut m books) c d e → Handled makes h (shut m books) c d' e'
+    shut-one : (m : Medium) (books : Side → Holdings) (l : Option Contents) (c : Order) → LeadsTo h most (moment_in (shut m books) l) c r b → LeadsTo h most (moment_in (shut m books) l) c r' b' → UsesDevice makes h (shut m books) c d e → UsesDevice makes h (shut m books) c d' e'
         → Same r r' b b' e e'
     shut-one m books l (instruct_order x) one two k k' = still one two (kept-device k k' s)
     shut-one m books l close_order one two k k' = still one two (kept-device k k' s)
@@ -92,7 +92,7 @@ module _ {D S : Type 0} (makes : D → DeviceCall → D → Type 0) (means : D �
         still one two (traced-fixed makes seen z.fixed (opening_calls h m) d d' e e' k k' s)
     shut-one m books l (ask_order q) one two k k' = still one two (kept-device k k' s)
 
-    step-one : (a : Phase) (l : Option Contents) (c : Order) → LeadsTo h most (moment_in a l) c r b → LeadsTo h most (moment_in a l) c r' b' → Handled makes h a c d e → Handled makes h a c d' e' → Same r r' b b' e e'
+    step-one : (a : Phase) (l : Option Contents) (c : Order) → LeadsTo h most (moment_in a l) c r b → LeadsTo h most (moment_in a l) c r' b' → UsesDevice makes h a c d e → UsesDevice makes h a c d' e' → Same r r' b b' e e'
     step-one (running v) l c one two k k' = running-one v l c one two k k'
     step-one (shut m books) l c one two k k' = shut-one m books l c one two k k'
 
@@ -100,7 +100,7 @@ module _ {D S : Type 0} (makes : D → DeviceCall → D → Type 0) (means : D �
   alike : {a : Moment} {d d' : D} {cs : List Order} {rs rs' : List Reply} {b b' : Moment} {e e' : D} → seen d ≡ seen d' → Path makes means h most a d cs rs b e → Path makes means h most a d' cs rs' b' e' → rs ≡ rs'
   alike s (no_calls is) (no_calls is') = refl
   alike s (first_call {a = a} {m = m} {d = d} {e = e} {c = c} {r = r} {cs = cs} {rs = rs} t p) (first_call {m = m'} {b = b'} {e = e'} {f = f'} {r = r'} {rs = rs'} t' p') =
-      let n = step-one s (starts-at p) (starts-at p') a.phase a.owed c t.does t'.does t.handled t'.handled in
+      let n = step-one s (starts-at p) (starts-at p') a.phase a.owed c t.does t'.does t.uses t'.uses in
       let q = subst (λ k. Path makes means h most k e' cs rs' b' f') (sym n.moment) p' in
       let rest = alike n.device p q in
       λ i. n.reply i ∷ rest i

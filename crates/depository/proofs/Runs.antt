@@ -17,7 +17,7 @@ use Rattle.book.specs.declared.Book as book
 use Rattle.depository.specs.declared.condition.Condition.{Condition}
 use Rattle.depository.specs.declared.condition.Condition.TheVariants.{Running, Shut}
 use Rattle.depository.specs.Moments.{Phase, running, shut, Moment, phase_of}
-use Rattle.depository.specs.Handling.{medium_in, device_of, Handled}
+use Rattle.depository.specs.DeviceUse.{medium_in, device_of, UsesDevice}
 use Rattle.depository.specs.Paths.{Path, no_calls, first_call}
 
 -- what is read past the end of a list of calls
@@ -32,26 +32,26 @@ pub fit-of : (x : Instruction) → Fit x → FitIn (instruct_order x)
 fit-of x fit y e = let q : x ≡ y = cc in subst Fit q fit
 
 module _ {D : Type 0} (makes : D → DeviceCall → D → Type 0) (means : D → Medium) (h : Rulebook) (most : ℕ) where
-  one-more : {a m b : Moment} {d e f : D} {cs : List Order} {rs : List Reply} {c : Order} (r : Reply) → Path makes means h most a d cs rs m e → FitIn c → LeadsTo h most m c r b → Handled makes h m.phase c e f → means f ≡ medium_in b.phase
+  one-more : {a m b : Moment} {d e f : D} {cs : List Order} {rs : List Reply} {c : Order} (r : Reply) → Path makes means h most a d cs rs m e → FitIn c → LeadsTo h most m c r b → UsesDevice makes h m.phase c e f → means f ≡ medium_in b.phase
       → Path makes means h most a d (cs ++ (c ∷ [])) (rs ++ (r ∷ [])) b f
-  one-more r (no_calls is) fit s hd then = first_call (record { means-it = is; fit = fit; does = s; handled = hd }) (no_calls then)
+  one-more r (no_calls is) fit s hd then = first_call (record { means-it = is; fit = fit; does = s; uses = hd }) (no_calls then)
   one-more r' (first_call t p) fit s hd then = first_call t (one-more r' p fit s hd then)
 
   -- one call more, from a list of calls
   pub next-call : {a m b : Moment} {d e f : D} (none : Call) (cs : List Call) (i : ℕ) (r : Reply) {rs rs' : List Reply} → i < length cs → Path makes means h most a d (map order (take i cs)) rs m e → FitIn (order (get_or cs i none))
-      → LeadsTo h most m (order (get_or cs i none)) r b → Handled makes h m.phase (order (get_or cs i none)) e f → means f ≡ medium_in b.phase → rs' ≡ rs ++ (r ∷ []) → Path makes means h most a d (map order (take (i + 1) cs)) rs' b f
+      → LeadsTo h most m (order (get_or cs i none)) r b → UsesDevice makes h m.phase (order (get_or cs i none)) e f → means f ≡ medium_in b.phase → rs' ≡ rs ++ (r ∷ []) → Path makes means h most a d (map order (take (i + 1) cs)) rs' b f
   next-call {a} {m} {b} {d} {e} {f} none cs i r {rs} {rs'} lt p fit s hd then is =
       subst (λ xs. Path makes means h most a d xs rs' b f) (sym (map_more order cs i none lt))
       (subst (λ ys. Path makes means h most a d (map order (take i cs) ++ (order (get_or cs i none) ∷ [])) ys b f) (sym is) (one-more r p fit s hd then))
 
   -- the same, where the call was given by what it asks for
   pub next-order : {a m b : Moment} {d e f : D} (none : Call) (cs : List Call) (i : ℕ) (o : Order) (r : Reply) {rs rs' : List Reply} → i < length cs → Path makes means h most a d (map order (take i cs)) rs m e
-      → order (get_or cs i none) ≡ o → FitIn o → LeadsTo h most m o r b → Handled makes h m.phase o e f → means f ≡ medium_in b.phase → rs' ≡ rs ++ (r ∷ []) → Path makes means h most a d (map order (take (i + 1) cs)) rs' b f
+      → order (get_or cs i none) ≡ o → FitIn o → LeadsTo h most m o r b → UsesDevice makes h m.phase o e f → means f ≡ medium_in b.phase → rs' ≡ rs ++ (r ∷ []) → Path makes means h most a d (map order (take (i + 1) cs)) rs' b f
   next-order {a} {m} {b} {d} {e} {f} none cs i o r {rs} {rs'} lt p eo fit does hd then is =
-      next-call none cs i r lt p (subst FitIn (sym eo) fit) (subst (λ q. LeadsTo h most m q r b) (sym eo) does) (subst (λ q. Handled makes h m.phase q e f) (sym eo) hd) then is
+      next-call none cs i r lt p (subst FitIn (sym eo) fit) (subst (λ q. LeadsTo h most m q r b) (sym eo) does) (subst (λ q. UsesDevice makes h m.phase q e f) (sym eo) hd) then is
 
   -- a question leaves the device
-  pub asked-only : (a : Phase) (q : Question) (d : D) → Handled makes h a (ask_order q) d d
+  pub asked-only : (a : Phase) (q : Question) (d : D) → UsesDevice makes h a (ask_order q) d d
   asked-only (running v) q d = refl
   asked-only (shut m books) q d = refl
 

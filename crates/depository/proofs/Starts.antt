@@ -17,11 +17,11 @@ use Rattle.engine.specs.Opening.{header_for_books}
 use Rattle.depository.specs.declared.calls.Reply.{Reply}
 use Rattle.depository.specs.Orders.{Order}
 use Rattle.depository.specs.Moments.{Moment, shut, moment_in}
-use Rattle.depository.specs.Tally.{fresh}
+use Rattle.depository.specs.CallTally.{empty_tally}
 use Rattle.depository.specs.Paths.{Path}
-use Rattle.depository.specs.Survival.{AfterFormat, Survives}
-use Rattle.depository.proofs.Kept.{Paired, Kept}
-use Rattle.depository.proofs.Survival.{law, beyond}
+use Rattle.depository.specs.Survival.{FormatLeaves, Survives}
+use Rattle.depository.proofs.KeepsTally.{Paired, KeepsTally}
+use Rattle.depository.proofs.Survival.{law, also}
 
 format-passes : (b : Bool) (e : Fault) (rest : Answer) → Ok tt ≡ cond b (Err e) rest → b ≡ false
 format-passes true e rest ok = absurd cc
@@ -52,10 +52,10 @@ module _ {D : Type 0} (makes : D → DeviceCall → D → Type 0) (means : D →
   abbrev made : ℕ → List DeviceCall
   made left = take (left + 1) (writing 0 zeros ∷ syncing ∷ (mark_writes pairs ++ (syncing ∷ writing 0 (header_bytes (format_header a b pairs)) ∷ syncing ∷ [])))
 
-  pub after-format : AfterFormat makes means h pairs d r e
+  pub after-format : FormatLeaves makes means h pairs d r e
   after-format = record {
     answer = sym is;
-    refused = λ n. sym (subst (λ b. IsTrace makes (cond b [] (made (means d).calls_left)) d e) n trace);
+    unchanged = λ n. sym (subst (λ b. IsTrace makes (cond b [] (made (means d).calls_left)) d e) n trace);
     after = λ n. subst (λ head. Formats (header_bytes head) pairs (means d) (means e)) (same-header h a b pairs ea eb) (after n);
     trace = subst (λ head. IsTrace makes (format_calls (header_bytes head) pairs (means d).size (means d).calls_left) d e) (same-header h a b pairs ea eb) trace;
   }
@@ -65,7 +65,7 @@ format-calls : (pairs : ℕ) (m : Medium) → format_answer pairs m ≡ Ok tt �
 format-calls pairs m e = grind (arith, e)
 
 module _ {D : Type 0} (makes : D → DeviceCall → D → Type 0) (means : D → Medium) (h : Rulebook) (most pairs : ℕ) (d : D) (books : Side → Holdings) (c₁ : (h.book_kind securities).code < 256) (c₂ : (h.book_kind cash).code < 256) (bounds : (x : D) → IsBounded (means x)) where
-  module _ (e : D) (f : AfterFormat makes means h pairs d (Ok tt) e) where
+  module _ (e : D) (f : FormatLeaves makes means h pairs d (Ok tt) e) where
     roomy : no_room pairs (means d).size ≡ false
     roomy = has-room pairs (means d) f.answer
 
@@ -73,7 +73,7 @@ module _ {D : Type 0} (makes : D → DeviceCall → D → Type 0) (means : D →
     paired = (room pairs (means d).size roomy).paired
 
     -- nothing stands yet, and no slip is owed
-    kept : Kept h pairs fresh (moment_in (shut (means e) books) None)
+    kept : KeepsTally h pairs empty_tally (moment_in (shut (means e) books) None)
     kept = (
       record {
         journal = fresh-journal (header_for_books h pairs) (means d) (means e) (omega (arith, paired.few)) (format-calls pairs (means d) f.answer) (f.after roomy);
@@ -83,10 +83,10 @@ module _ {D : Type 0} (makes : D → DeviceCall → D → Type 0) (means : D →
       refl,
     )
 
-  pub served : {cs : List Order} {rs : List Reply} {n z : Moment} {e f : D} → AfterFormat makes means h pairs d (Ok tt) e → n ≡ moment_in (shut (means e) books) None → Path makes means h most n e cs rs z f → Survives makes means h most pairs d books cs rs z f
+  pub served : {cs : List Order} {rs : List Reply} {n z : Moment} {e f : D} → FormatLeaves makes means h pairs d (Ok tt) e → n ≡ moment_in (shut (means e) books) None → Path makes means h most n e cs rs z f → Survives makes means h most pairs d books cs rs z f
   served {cs} {rs} {n} {z} {e} {f} after en path = record {
     run = record { device = e; format = after; path = subst (λ a. Path makes means h most a e cs rs z f) en path };
     law = λ cs rs b f run. law h most pairs (paired run.device run.format) c₁ c₂ makes means bounds (kept run.device run.format) refl run.path;
-    also = λ cs rs b f run. beyond h most pairs (paired run.device run.format) c₁ c₂ makes means bounds (kept run.device run.format) refl run.path;
-    words = lasts-are-unique;
+    also = λ cs rs b f run. also h most pairs (paired run.device run.format) c₁ c₂ makes means bounds (kept run.device run.format) refl run.path;
+    lasts = lasts-are-unique;
   }

@@ -24,18 +24,18 @@ use Rattle.engine.specs.Opening.{opening_view}
 use Rattle.engine.proofs.Openings.{listed-is}
 use Rattle.depository.specs.Orders.{Order, instruct_order, close_order, restart_order, open_order, ask_order}
 use Rattle.depository.specs.declared.calls.Reply.{Reply}
-use Rattle.depository.specs.declared.calls.Reply.TheVariants.{Misfit, ToOpen as OpenedReply}
+use Rattle.depository.specs.declared.calls.Reply.TheVariants.{Misfit, ToOpen}
 use Rattle.depository.specs.declared.calls.OpenReply.{OpenReply}
 use Rattle.depository.specs.OwedSlip.{newest_known}
 use Rattle.depository.specs.Moments.{Phase, running, shut, Moment, moment_in}
-use Rattle.depository.specs.Handling.{medium_in}
-use Rattle.depository.specs.Calling.{Yields, LeadsTo, slip_answer, owed_after_open, opened_reply}
-use Rattle.depository.specs.Tally.{Tally, feed, fresh, tally, tally_from}
-use Rattle.depository.specs.Paths.{Path, no_calls, first_call, closing_told, last_closing}
-use Rattle.depository.specs.Survival.{Stands, Judged, TellsTally, IsOpenAccepted, Law, Beyond}
-use Rattle.depository.proofs.Kept.{Matches, Paired, InEngine, KeptBy, KeptIn, Kept}
-use Rattle.depository.proofs.Instructed.{instructed}
-use Rattle.depository.proofs.Reopened.{closed, restarted, reopened}
+use Rattle.depository.specs.DeviceUse.{medium_in}
+use Rattle.depository.specs.Calling.{Yields, LeadsTo, slip_answer, owed_after_open, reply_to_open}
+use Rattle.depository.specs.CallTally.{Tally, tally_after, empty_tally, tally, tally_from}
+use Rattle.depository.specs.Paths.{Path, no_calls, first_call, slip_of_call, last_known_slip}
+use Rattle.depository.specs.Survival.{IsStandingList, JudgesLastSlip, SlipTellsTally, IsOpenAccepted, SurvivalLaw, AlsoHolds}
+use Rattle.depository.proofs.KeepsTally.{Matches, Paired, InEngine, KeepsTallyBy, KeepsTallyIn, KeepsTally}
+use Rattle.depository.proofs.Instructing.{instructed}
+use Rattle.depository.proofs.Reopening.{closed, restarted, reopened}
 
 -- What is owed, against what the last closing told: an engine that is open or down owes what it likes, since its own slip will
 -- tell something.
@@ -56,7 +56,7 @@ or-or : {X : Type 0} (a b c : Option X) → option_or a (option_or b c) ≡ opti
 or-or None b c = refl
 or-or (Some x) b c = refl
 
-pub same-reply : {o o' : OpenReply} → OpenedReply o ≡ OpenedReply o' → o ≡ o'
+pub same-reply : {o o' : OpenReply} → ToOpen o ≡ ToOpen o' → o ≡ o'
 same-reply e = cc
 
 module _ (h : Rulebook) (most : ℕ) where
@@ -78,7 +78,7 @@ module _ (h : Rulebook) (most : ℕ) where
   owes-opened told (Down x) l o = tt
   owes-opened told (Refused f) l o = o
 
-  owes-next : (told : Option Contents) (a : Phase) (l : Option Contents) (c : Order) (r : Reply) (b : Moment) → LeadsTo h most (moment_in a l) c r b → Owes told a l → Owes (option_or (closing_told a c) told) b.phase b.owed
+  owes-next : (told : Option Contents) (a : Phase) (l : Option Contents) (c : Order) (r : Reply) (b : Moment) → LeadsTo h most (moment_in a l) c r b → Owes told a l → Owes (option_or (slip_of_call a c) told) b.phase b.owed
   owes-next told (running v) l (instruct_order x) r b d o = owes-at _ d.yields (owes-left told (check_answer h x v) (write_entry_answer v.medium v.entry_count) x v d.after l d.engine.after o)
   owes-next told (running v) l close_order r b d o = owes-at _ d (owes-closed told v.mode v.entry_count l o)
   owes-next told (running v) l (restart_order q remains) r b d o = owes-at _ d o
@@ -92,20 +92,20 @@ module _ (h : Rulebook) (most : ℕ) where
 
   -- what is owed where a path ends
   owes-along : {D : Type 0} {makes : D → DeviceCall → D → Type 0} {means : D → Medium} {a b : Moment} {d e : D} {cs : List Order} {rs : List Reply} (told : Option Contents) (q : Path makes means h most a d cs rs b e) → Owes told a.phase a.owed
-      → Owes (option_or (last_closing q) told) b.phase b.owed
-  unfolding last_closing
+      → Owes (option_or (last_known_slip q) told) b.phase b.owed
+  unfolding last_known_slip
   owes-along told (no_calls is) o = o
   owes-along told (first_call {a = a} {m = m} {b = b} {c = c} {r = r} s q) o =
-      subst (λ u. Owes u b.phase b.owed) (or-or (last_closing q) (closing_told a.phase c) told)
-      (owes-along (option_or (closing_told a.phase c) told) q (owes-next told a.phase a.owed c r m s.does o))
+      subst (λ u. Owes u b.phase b.owed) (or-or (last_known_slip q) (slip_of_call a.phase c) told)
+      (owes-along (option_or (slip_of_call a.phase c) told) q (owes-next told a.phase a.owed c r m s.does o))
 
 module _ (h : Rulebook) (most pairs : ℕ) (p : Paired pairs) (c₁ : (h.book_kind securities).code < 256) (c₂ : (h.book_kind cash).code < 256) where
-  by-leads : (t : Tally) (c : Order) {r r₀ : Reply} {b b₀ : Moment} → Yields r r₀ b b₀ → Kept h pairs (feed t c r₀) b₀ → Kept h pairs (feed t c r) b
-  by-leads t c {r} {r₀} {b} {b₀} e k = subst (λ s. Kept h pairs (feed t c s) b) (sym e.reply) (subst (λ n. Kept h pairs (feed t c r₀) n) (sym e.moment) k)
+  by-leads : (t : Tally) (c : Order) {r r₀ : Reply} {b b₀ : Moment} → Yields r r₀ b b₀ → KeepsTally h pairs (tally_after t c r₀) b₀ → KeepsTally h pairs (tally_after t c r) b
+  by-leads t c {r} {r₀} {b} {b₀} e k = subst (λ s. KeepsTally h pairs (tally_after t c s) b) (sym e.reply) (subst (λ n. KeepsTally h pairs (tally_after t c r₀) n) (sym e.moment) k)
 
   -- a call keeps the tally that it is fed to
-  kept-next : (t : Tally) (a : Phase) (l : Option Contents) (c : Order) (r : Reply) (b : Moment) → LeadsTo h most (moment_in a l) c r b → ((x : Instruction) → c ≡ instruct_order x → Fit x) → IsBounded (medium_in a) → Kept h pairs t (moment_in a l)
-      → Kept h pairs (feed t c r) b
+  kept-next : (t : Tally) (a : Phase) (l : Option Contents) (c : Order) (r : Reply) (b : Moment) → LeadsTo h most (moment_in a l) c r b → ((x : Instruction) → c ≡ instruct_order x → Fit x) → IsBounded (medium_in a) → KeepsTally h pairs t (moment_in a l)
+      → KeepsTally h pairs (tally_after t c r) b
   kept-next t (running v) l (instruct_order x) r b d fit bounded k = by-leads t (instruct_order x) d.yields (instructed h pairs p.few t x (fit x refl) v d.after l d.answer d.engine k)
   kept-next t (running v) l close_order r b d fit bounded k = by-leads t close_order d (closed h pairs t v l v.mode k)
   kept-next t (running v) l (restart_order q remains) r b d fit bounded k = by-leads t (restart_order q remains) d k
@@ -121,68 +121,68 @@ module _ (h : Rulebook) (most pairs : ℕ) (p : Paired pairs) (c₁ : (h.book_ki
   unfolding tally_from
   tally-none t rs = refl
 
-  tally-more : (t : Tally) (c : Order) (r : Reply) (cs : List Order) (rs : List Reply) → tally_from t (c ∷ cs) (r ∷ rs) ≡ tally_from (feed t c r) cs rs
+  tally-more : (t : Tally) (c : Order) (r : Reply) (cs : List Order) (rs : List Reply) → tally_from t (c ∷ cs) (r ∷ rs) ≡ tally_from (tally_after t c r) cs rs
   unfolding tally_from
   tally-more t c r cs rs = refl
 
   -- what a moment keeps of its tally says
-  engine-by : (t : Tally) (v : View) (l : Option Contents) (m : Mode) → KeptBy h pairs t v l m → opening_answer m ≡ Ok tt → InEngine h pairs t v
+  engine-by : (t : Tally) (v : View) (l : Option Contents) (m : Mode) → KeepsTallyBy h pairs t v l m → opening_answer m ≡ Ok tt → InEngine h pairs t v
   engine-by t v l Open k e = k.1
   engine-by t v l (Down x) k e = k.1
   engine-by t v l (Refused f) k e = absurd cc
 
-  engine-in : (t : Tally) (b : Moment) → Kept h pairs t b → (v : View) → b.phase ≡ running v → opening_answer v.mode ≡ Ok tt → InEngine h pairs t v
-  engine-in t b k v is e = engine-by t v b.owed v.mode (subst (λ a. KeptIn h pairs t a b.owed) is k) e
+  engine-in : (t : Tally) (b : Moment) → KeepsTally h pairs t b → (v : View) → b.phase ≡ running v → opening_answer v.mode ≡ Ok tt → InEngine h pairs t v
+  engine-in t b k v is e = engine-by t v b.owed v.mode (subst (λ a. KeepsTallyIn h pairs t a b.owed) is k) e
 
-  stands : (t : Tally) (v : View) → InEngine h pairs t v → Stands h t.list v
+  stands : (t : Tally) (v : View) → InEngine h pairs t v → IsStandingList h t.list v
   stands t v k = record {
-    list = ap (standing_list v.medium) k.entry_count ∙ listed-is h pairs k.device.journal;
+    recorded = ap (standing_list v.medium) k.entry_count ∙ listed-is h pairs k.device.journal;
     runs = k.runs;
-    said = law-of-the-ledger h t.list v.standing k.runs;
+    determines = law-of-the-ledger h t.list v.standing k.runs;
   }
 
-  journal-by : (t : Tally) (v : View) (l : Option Contents) (m : Mode) → KeptBy h pairs t v l m → Journal (blocks_for_books h pairs) v.medium t.list t.hand
+  journal-by : (t : Tally) (v : View) (l : Option Contents) (m : Mode) → KeepsTallyBy h pairs t v l m → Journal (blocks_for_books h pairs) v.medium t.list t.in_hand
   journal-by t v l Open k = k.1.device.journal
   journal-by t v l (Down x) k = k.1.device.journal
   journal-by t v l (Refused f) k = k.0.journal
 
-  journal-in : (t : Tally) (a : Phase) (l : Option Contents) → KeptIn h pairs t a l → Journal (blocks_for_books h pairs) (medium_in a) t.list t.hand
+  journal-in : (t : Tally) (a : Phase) (l : Option Contents) → KeepsTallyIn h pairs t a l → Journal (blocks_for_books h pairs) (medium_in a) t.list t.in_hand
   journal-in t (running v) l k = journal-by t v l v.mode k
   journal-in t (shut m books) l k = k.0.journal
 
   -- what is in hand
-  idle-by : (t : Tally) (v : View) (l : Option Contents) (m : Mode) → KeptBy h pairs t v l m → m ≡ Open → t.hand ≡ None
+  idle-by : (t : Tally) (v : View) (l : Option Contents) (m : Mode) → KeepsTallyBy h pairs t v l m → m ≡ Open → t.in_hand ≡ None
   idle-by t v l Open k e = k.0
   idle-by t v l (Down x) k e = absurd cc
   idle-by t v l (Refused f) k e = absurd cc
 
-  hand-by : (t : Tally) (v : View) (l : Option Contents) (m : Mode) → KeptBy h pairs t v l m → (x : Instruction) → m ≡ Down x → t.hand ≡ Some x
+  hand-by : (t : Tally) (v : View) (l : Option Contents) (m : Mode) → KeepsTallyBy h pairs t v l m → (x : Instruction) → m ≡ Down x → t.in_hand ≡ Some x
   hand-by t v l Open k x e = absurd cc
   hand-by t v l (Down y) k x e = let same : y ≡ x = cc in k.0 ∙ ap (λ (z : Instruction). Some z) same
   hand-by t v l (Refused f) k x e = absurd cc
 
-  tells : (t : Tally) (l : Option Contents) → Matches l t → TellsTally l t
-  tells t None k = record { none = λ e. k; some = λ c e. absurd cc }
+  tells : (t : Tally) (l : Option Contents) → Matches l t → SlipTellsTally l t
+  tells t None k = record { no_slip = λ e. k; slip = λ c e. absurd cc }
   tells t (Some d) k = record {
-    none = λ e. absurd cc;
-    some = λ c e. let same : d ≡ c = cc in (sym (ap (λ (z : Contents). z.entries) same) ∙ k.0, sym (ap (λ (z : Contents). z.hand) same) ∙ k.1);
+    no_slip = λ e. absurd cc;
+    slip = λ c e. let same : d ≡ c = cc in (sym (ap (λ (z : Contents). z.entries) same) ∙ k.0, sym (ap (λ (z : Contents). z.hand) same) ∙ k.1);
   }
 
-  slip-in : (t : Tally) (told : Option Contents) (a : Phase) (l : Option Contents) → KeptIn h pairs t a l → Owes told a l → (m : Medium) (books : Side → Holdings) → a ≡ shut m books → TellsTally told t
+  slip-in : (t : Tally) (told : Option Contents) (a : Phase) (l : Option Contents) → KeepsTallyIn h pairs t a l → Owes told a l → (m : Medium) (books : Side → Holdings) → a ≡ shut m books → SlipTellsTally told t
   slip-in t told (running v) l k o m books e = absurd cc
-  slip-in t told (shut n others) l k o m books e = subst (λ u. TellsTally u t) o (tells t l k.1)
+  slip-in t told (shut n others) l k o m books e = subst (λ u. SlipTellsTally u t) o (tells t l k.1)
 
   -- the open that comes next
-  well : (m : Medium) (l : Option Contents) (r : Reply) → opening_answer (opening_view h m).mode ≡ Ok tt → r ≡ opened_reply (opening_view h m) l → IsOpenAccepted r
+  well : (m : Medium) (l : Option Contents) (r : Reply) → opening_answer (opening_view h m).mode ≡ Ok tt → r ≡ reply_to_open (opening_view h m) l → IsOpenAccepted r
   well m l r e is = (record { answer = opening_answer (opening_view h m).mode; found = (opening_view h m).found; slip_answer = slip_answer (opening_view h m).mode (opening_view h m).found (opening_view h m).last_found l }, is, e)
 
   same-engine : {v w : View} → running v ≡ running w → v ≡ w
   same-engine e = cc
 
-  no-misfit : {o : OpenReply} → OpenedReply o ≡ Misfit → ⊥
+  no-misfit : {o : OpenReply} → ToOpen o ≡ Misfit → ⊥
   no-misfit e = cc
 
-  enough : (t : Tally) (a : Phase) (l : Option Contents) → Kept h pairs t (moment_in a l) → IsBounded (medium_in a) → (m : Medium) (books : Side → Holdings) → a ≡ shut m books → 1 + 2 * pairs ≤ m.calls_left
+  enough : (t : Tally) (a : Phase) (l : Option Contents) → KeepsTally h pairs t (moment_in a l) → IsBounded (medium_in a) → (m : Medium) (books : Side → Holdings) → a ≡ shut m books → 1 + 2 * pairs ≤ m.calls_left
       → (r : Reply) (z : Moment) → LeadsTo h most (moment_in a l) open_order r z → IsOpenAccepted r
   enough t (running v) l k bounded m books e low r z d = absurd cc
   enough t (shut n others) l k bounded m books e low r z d =
@@ -190,23 +190,23 @@ module _ (h : Rulebook) (most pairs : ℕ) (p : Paired pairs) (c₁ : (h.book_ki
       let o = reopened h pairs t n l p c₁ c₂ bounded k.0 k.1 in
       well n l r (o.prompt (subst (λ (u : Medium). 1 + 2 * pairs ≤ u.calls_left) (sym same) low)) d.reply
 
-  refused : (t : Tally) (a : Phase) (l : Option Contents) → Kept h pairs t (moment_in a l) → IsBounded (medium_in a) → (r : Reply) (z : Moment) → LeadsTo h most (moment_in a l) open_order r z
-      → (o : OpenReply) (f : Fault) → r ≡ OpenedReply o → o.answer ≡ Err f → number_of f.refusal ≡ 13
+  refused : (t : Tally) (a : Phase) (l : Option Contents) → KeepsTally h pairs t (moment_in a l) → IsBounded (medium_in a) → (r : Reply) (z : Moment) → LeadsTo h most (moment_in a l) open_order r z
+      → (o : OpenReply) (f : Fault) → r ≡ ToOpen o → o.answer ≡ Err f → number_of f.refusal ≡ 13
   refused t (running v) l k bounded r z d o f is e = absurd (no-misfit (sym is ∙ d.reply))
   refused t (shut m books) l k bounded r z d o f is e =
       let same = same-reply (sym d.reply ∙ is) in
       (reopened h pairs t m l p c₁ c₂ bounded k.0 k.1).refused f (ap (λ (u : OpenReply). u.answer) same ∙ e)
 
-  verdict : (t : Tally) (told : Option Contents) (a : Phase) (l : Option Contents) → Kept h pairs t (moment_in a l) → Owes told a l → IsBounded (medium_in a) → (r : Reply) (z : Moment) → LeadsTo h most (moment_in a l) open_order r z
-      → (o : OpenReply) (v : View) → r ≡ OpenedReply o → o.answer ≡ Ok tt → z.phase ≡ running v → Judged told o v
-  verdict t told (running w) l k owes bounded r z d o v is e gives = absurd (no-misfit (sym is ∙ d.reply))
-  verdict t told (shut m books) l k owes bounded r z d o v is e gives =
+  verdict : (t : Tally) (told : Option Contents) (a : Phase) (l : Option Contents) → KeepsTally h pairs t (moment_in a l) → Owes told a l → IsBounded (medium_in a) → (r : Reply) (z : Moment) → LeadsTo h most (moment_in a l) open_order r z
+      → (o : OpenReply) → r ≡ ToOpen o → o.answer ≡ Ok tt → (v : View) → z.phase ≡ running v → JudgesLastSlip told o v
+  verdict t told (running w) l k owes bounded r z d o is e v gives = absurd (no-misfit (sym is ∙ d.reply))
+  verdict t told (shut m books) l k owes bounded r z d o is e v gives =
       let same = same-reply (sym d.reply ∙ is) in
       let engine : opening_view h m ≡ v = same-engine (sym (ap (λ (n : Moment). n.phase) d.moment) ∙ gives) in
       let j = (reopened h pairs t m l p c₁ c₂ bounded k.0 k.1).judged (ap (λ (u : OpenReply). u.answer) same ∙ e) in
-      let j₁ = subst (λ (u : OpenReply). Judged l u (opening_view h m)) same j in
-      let j₂ = subst (λ u. Judged l o u) engine j₁ in
-      subst (λ u. Judged u o v) owes j₂
+      let j₁ = subst (λ (u : OpenReply). JudgesLastSlip l u (opening_view h m)) same j in
+      let j₂ = subst (λ u. JudgesLastSlip l o u) engine j₁ in
+      subst (λ u. JudgesLastSlip u o v) owes j₂
 
   module _ {D : Type 0} (makes : D → DeviceCall → D → Type 0) (means : D → Medium) (bounds : (x : D) → IsBounded (means x)) where
     bounded-in : (a : Phase) (x : D) → means x ≡ medium_in a → IsBounded (medium_in a)
@@ -217,35 +217,35 @@ module _ (h : Rulebook) (most pairs : ℕ) (p : Paired pairs) (c₁ : (h.book_ki
     path-means (first_call s q) = path-means q
 
     -- what is kept is kept along a path
-    kept-along : {a b : Moment} {d e : D} {cs : List Order} {rs : List Reply} (t : Tally) → Path makes means h most a d cs rs b e → Kept h pairs t a → Kept h pairs (tally_from t cs rs) b
-    kept-along t (no_calls {a = a} is) k = subst (λ u. Kept h pairs u a) (sym (tally-none t [])) k
+    kept-along : {a b : Moment} {d e : D} {cs : List Order} {rs : List Reply} (t : Tally) → Path makes means h most a d cs rs b e → KeepsTally h pairs t a → KeepsTally h pairs (tally_from t cs rs) b
+    kept-along t (no_calls {a = a} is) k = subst (λ u. KeepsTally h pairs u a) (sym (tally-none t [])) k
     kept-along t (first_call {a = a} {m = m} {b = b} {d = d} {c = c} {r = r} {cs = cs} {rs = rs} s q) k =
-        subst (λ u. Kept h pairs u b) (sym (tally-more t c r cs rs)) (kept-along (feed t c r) q (kept-next t a.phase a.owed c r m s.does s.fit (bounded-in a.phase d s.means-it) k))
+        subst (λ u. KeepsTally h pairs u b) (sym (tally-more t c r cs rs)) (kept-along (tally_after t c r) q (kept-next t a.phase a.owed c r m s.does s.fit (bounded-in a.phase d s.means-it) k))
 
-    module _ {a b : Moment} {d e : D} {cs : List Order} {rs : List Reply} (start : Kept h pairs fresh a) (none : Owes None a.phase a.owed) (q : Path makes means h most a d cs rs b e) where
-      kept : Kept h pairs (tally cs rs) b
-      kept = kept-along fresh q start
+    module _ {a b : Moment} {d e : D} {cs : List Order} {rs : List Reply} (start : KeepsTally h pairs empty_tally a) (none : Owes None a.phase a.owed) (q : Path makes means h most a d cs rs b e) where
+      kept : KeepsTally h pairs (tally cs rs) b
+      kept = kept-along empty_tally q start
 
-      owes : Owes (last_closing q) b.phase b.owed
-      owes = subst (λ u. Owes u b.phase b.owed) (or-none (last_closing q)) (owes-along h most None q none)
+      owes : Owes (last_known_slip q) b.phase b.owed
+      owes = subst (λ u. Owes u b.phase b.owed) (or-none (last_known_slip q)) (owes-along h most None q none)
 
       bounded : IsBounded (medium_in b.phase)
       bounded = bounded-in b.phase e (path-means q)
 
-      pub law : Law h most pairs cs rs (last_closing q) b
+      pub law : SurvivalLaw h most pairs (tally cs rs) (last_known_slip q) b
       law = record {
         stands = λ v is e. stands (tally cs rs) v (engine-in (tally cs rs) b kept v is e);
-        keeps = λ v is e. (engine-in (tally cs rs) b kept v is e).device.journal;
-        idle = λ v is. idle-by (tally cs rs) v b.owed v.mode (subst (λ a. KeptIn h pairs (tally cs rs) a b.owed) is kept);
-        hand = λ v is. hand-by (tally cs rs) v b.owed v.mode (subst (λ a. KeptIn h pairs (tally cs rs) a b.owed) is kept);
-        slip = slip-in (tally cs rs) (last_closing q) b.phase b.owed kept owes;
+        journal = λ v is e. (engine-in (tally cs rs) b kept v is e).device.journal;
+        open_hand = λ v is. idle-by (tally cs rs) v b.owed v.mode (subst (λ a. KeepsTallyIn h pairs (tally cs rs) a b.owed) is kept);
+        down_hand = λ v is. hand-by (tally cs rs) v b.owed v.mode (subst (λ a. KeepsTallyIn h pairs (tally cs rs) a b.owed) is kept);
+        slip = slip-in (tally cs rs) (last_known_slip q) b.phase b.owed kept owes;
         prompt = λ m books is low. enough (tally cs rs) b.phase b.owed kept bounded m books is (omega (arith, p.few, low));
-        verdict = verdict (tally cs rs) (last_closing q) b.phase b.owed kept owes bounded;
+        verdict = verdict (tally cs rs) (last_known_slip q) b.phase b.owed kept owes bounded;
       }
 
-      pub beyond : Beyond h most pairs cs rs b
-      beyond = record {
+      pub also : AlsoHolds h most pairs (tally cs rs) b
+      also = record {
         prompt = enough (tally cs rs) b.phase b.owed kept bounded;
         refused = refused (tally cs rs) b.phase b.owed kept bounded;
-        keeps = journal-in (tally cs rs) b.phase b.owed kept;
+        journal = journal-in (tally cs rs) b.phase b.owed kept;
       }

@@ -2,7 +2,7 @@ pub mod Orders
 pub mod OwedSlip
 pub mod Moments
 pub mod Calling
-pub mod Tally
-pub mod Handling
+pub mod CallTally
+pub mod DeviceUse
 pub mod Paths
 pub mod Survival

@@ -1,4 +1,4 @@
--- The slip that a depository owes.
+-- The closing slip that a depository owes, if any: the last known one, until an engine judges it.
 use Rattle.std.specs.Prelude.{Some, None, Option, is_some, ◌≡◌}
 use Rattle.engine.specs.declared.slip.Slip.{Slip}
 use Rattle.engine.specs.declared.slip.Contents.{Contents}
@@ -7,13 +7,13 @@ use Rattle.engine.specs.ClosingSlip.{contents}
 -- what the slip tells, if one is owed
 abbrev pub owed_contents : Option Slip → Option Contents
 owed_contents None = None
-owed_contents (Some s) = contents s
+owed_contents (Some slip) = contents slip
 
--- a slip that is owed tells something
-abbrev pub Known : Option Slip → Type 0
-Known slip = is_some slip ≡ is_some (owed_contents slip)
+-- a slip that is owed is a known one
+abbrev pub IsNoneOrKnown : Option Slip → Type 0
+IsNoneOrKnown owed = is_some owed ≡ is_some (owed_contents owed)
 
--- what is owed after one more slip: the new one, unless it tells nothing
+-- what is owed after a close: what its slip tells, or, where that is unknown, what was owed before
 abbrev pub newest_known : Option Contents → Option Contents → Option Contents
 newest_known None before = before
 newest_known (Some c) before = Some c

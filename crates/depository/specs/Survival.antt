@@ -1,5 +1,4 @@
--- The law of survival: what stands of a depository, and what its next open is answered, wherever
--- calls have led it from a format on.
+-- The law of survival: what outlasts a loss of power, and what a depository's next open answers.
 use Rattle.std.specs.Prelude.{◌≡◌, ℕ, ◌+◌, ◌*◌, ◌≤◌, true, false, ◌⊎◌, List, length, Some, None, Ok, Err, Option, Result}
 use Rattle.refusals.specs.declared.Refusal.{Refusal}
 use Rattle.refusals.specs.declared.Fault.{Fault}
@@ -10,6 +9,7 @@ use Rattle.rulebook.specs.Terms.{Side}
 use Rattle.rulebook.specs.Rules.{Rulebook, Runs}
 use Rattle.rulebook.specs.Law.{Determines}
 use Rattle.rulebook.specs.Words.{LastsAreUnique}
+use Rattle.device.specs.declared.TheConstants.{MOST_BLOCKS}
 use Rattle.device.specs.Medium.{Medium}
 use Rattle.device.specs.Calls.{Answer}
 use Rattle.device.specs.Traces.{DeviceCall, IsTrace}
@@ -26,127 +26,158 @@ use Rattle.engine.specs.Lasting.{standing_list, blocks_for_books}
 use Rattle.engine.specs.Opening.{header_for_books}
 use Rattle.depository.specs.Orders.{Order, open_order}
 use Rattle.depository.specs.declared.calls.Reply.{Reply}
-use Rattle.depository.specs.declared.calls.Reply.TheVariants.{ToOpen as OpenedReply}
+use Rattle.depository.specs.declared.calls.Reply.TheVariants.{ToOpen}
 use Rattle.depository.specs.declared.calls.OpenReply.{OpenReply}
 use Rattle.depository.specs.declared.stop.Stop.{Stop}
 use Rattle.depository.specs.declared.stop.Stop.TheVariants.{ByFault, NoMemory}
 use Rattle.depository.specs.Moments.{running, shut, Moment, moment_in}
 use Rattle.depository.specs.Calling.{LeadsTo}
-use Rattle.depository.specs.Handling.{medium_in}
-use Rattle.depository.specs.Tally.{Tally, tally}
-use Rattle.depository.specs.Paths.{Path, last_closing}
+use Rattle.depository.specs.DeviceUse.{medium_in}
+use Rattle.depository.specs.CallTally.{Tally, tally}
+use Rattle.depository.specs.Paths.{Path, last_known_slip}
 
--- calls that are enough to open any device
+-- How to read this file: `Survives`, near its end, is what the function `serve` promises. It says
+-- `SurvivalLaw` of every run that begins with a format. That law compares the depository with its
+-- tally, which is made of the calls and their answers and of nothing else: whoever wrote them down
+-- knows what stands.
+
+-- calls that are enough to open any device: an open makes at most one for each block
 abbrev pub enough_to_open : ℕ
-enough_to_open = 65535
+enough_to_open = MOST_BLOCKS
 
--- xs is the engine's standing list: the instructions that its records say. The rules accept them in
--- order, and carrying them out gives the engine's books and trades. Each trade's state and terms are
--- those that the list says. For each account and item, free and blocked together are its credits and
--- what it received, less what it gave; and what is blocked is what its open trades hold.
-pub record Stands (h : Rulebook) (xs : List Instruction) (v : View) : Type 0 where
-  -- no record here is one that says nothing: the rules would not accept what is listed for it
-  pub list : standing_list v.medium v.entry_count ≡ xs
-  pub runs : Runs h xs v.standing
-  pub said : Determines xs v.standing
+-- the engine is open or down: its opening was answered 0
+abbrev pub IsOpenOrDown : View → Type 0
+IsOpenOrDown engine = opening_answer engine.mode ≡ Ok tt
 
--- What the answer o of an open, and the engine v that it gave, say of the last closing before it whose
--- slip is known. `told` is what that slip tells, or None where there was no such closing.
-pub record Judged (told : Option Contents) (o : OpenReply) (v : View) : Type 0 where
-  pub none : told ≡ None → o.slip_answer ≡ None
-  -- its slip is judged by the count of the entries found and the last of them
-  pub judged : (c : Contents) → told ≡ Some c
-      → (w : Verdict) × (o.slip_answer ≡ Some (Ok w)) × HasVerdict (Some c) o.found v.last_found w
-  pub upheld : (p : Result Verdict Refusal) → o.slip_answer ≡ Some p
+-- r is the reply to an open that was answered 0
+abbrev pub IsOpenAccepted : Reply → Type 0
+IsOpenAccepted r = (o : OpenReply) × (r ≡ ToOpen o) × (o.answer ≡ Ok tt)
+
+-- The instructions xs are the standing list of an engine.
+pub record IsStandingList (h : Rulebook) (xs : List Instruction) (engine : View) : Type 0 where
+  -- They are what the records of the engine's entries say, in order. (A record that says no
+  -- instruction would be listed as one of kind 0. By the next line there is none: the rules refuse
+  -- that kind.)
+  pub recorded : standing_list engine.medium engine.entry_count ≡ xs
+  -- The rules accept them one after another, and so come to the engine's books and trades.
+  pub runs : Runs h xs engine.standing
+  -- Each trade's state and terms are those that the list says. For each account and item, free and
+  -- blocked together are its credits and what it received, less what it gave; and blocked is what
+  -- its open trades hold.
+  pub determines : Determines xs engine.standing
+
+-- What the last known slip tells is the tally: the number of entries is that of the list, and the
+-- instruction in hand is the same. Where there is no known slip, nothing is in hand.
+pub record SlipTellsTally (last_slip : Option Contents) (t : Tally) : Type 0 where
+  pub no_slip : last_slip ≡ None → t.in_hand ≡ None
+  pub slip : (c : Contents) → last_slip ≡ Some c
+      → (c.entries ≡ length t.list) × (c.hand ≡ t.in_hand)
+
+-- What an open, answered o, says of the last known slip before it, where it gave this engine.
+pub record JudgesLastSlip (last_slip : Option Contents) (o : OpenReply) (engine : View)
+    : Type 0 where
+  -- Where there is no such slip, none is presented.
+  pub no_slip : last_slip ≡ None → o.slip_answer ≡ None
+  -- Where there is one, it is answered the verdict that the count found and the last entry found
+  -- give it,
+  pub judged : (c : Contents) → last_slip ≡ Some c
+      → (w : Verdict) × (o.slip_answer ≡ Some (Ok w))
+      × HasVerdict (Some c) o.found engine.last_found w
+  -- and the number of that verdict is 0 (nothing more stands) or 1 (what was in hand stands).
+  pub zero_or_one : (p : Result Verdict Refusal) → o.slip_answer ≡ Some p
       → (presented_number p ≡ 0) ⊎ (presented_number p ≡ 1)
 
--- What the last closing told, if its slip is known, is the tally: how many instructions it lists, and
--- what is in hand. Where there was none, nothing is in hand.
-pub record TellsTally (told : Option Contents) (t : Tally) : Type 0 where
-  pub none : told ≡ None → t.hand ≡ None
-  pub some : (c : Contents) → told ≡ Some c → (c.entries ≡ length t.list) × (c.hand ≡ t.hand)
+module _ (h : Rulebook) (most_calls pairs : ℕ) where
+  -- The law at one moment of a run. `t` is the tally of the calls up to then. `last_slip` is what
+  -- the last known slip tells that a close among them gave, or None if none did.
+  pub record SurvivalLaw (t : Tally) (last_slip : Option Contents) (moment : Moment) : Type 0 where
+    -- While an engine runs that is open or down, the tally's list is its standing list,
+    pub stands : (engine : View) → moment.phase ≡ running engine → IsOpenOrDown engine
+        → IsStandingList h t.list engine
+    -- and its device keeps that list, and what is in hand, as a journal of so many pairs.
+    pub journal : (engine : View) → moment.phase ≡ running engine → IsOpenOrDown engine
+        → Journal (blocks_for_books h pairs) engine.medium t.list t.in_hand
+    -- If it is open, nothing is in hand.
+    pub open_hand : (engine : View) → moment.phase ≡ running engine
+        → engine.mode ≡ Open → t.in_hand ≡ None
+    -- If it is down, the instruction that was cut short is in hand.
+    pub down_hand : (engine : View) → moment.phase ≡ running engine
+        → (x : Instruction) → engine.mode ≡ Down x → t.in_hand ≡ Some x
+    -- While no engine runs, the last known slip tells the tally.
+    pub slip : (medium : Medium) (books : Side → Holdings) → moment.phase ≡ shut medium books
+        → SlipTellsTally last_slip t
+    -- If the device then has calls enough left, an open is answered 0,
+    pub prompt : (medium : Medium) (books : Side → Holdings) → moment.phase ≡ shut medium books
+        → enough_to_open ≤ medium.calls_left
+        → (r : Reply) (after : Moment) → LeadsTo h most_calls moment open_order r after
+        → IsOpenAccepted r
+    -- and an open that is answered 0 judges that slip, with 0 or 1.
+    pub verdict : (r : Reply) (after : Moment) → LeadsTo h most_calls moment open_order r after
+        → (o : OpenReply) → r ≡ ToOpen o → o.answer ≡ Ok tt
+        → (engine : View) → after.phase ≡ running engine
+        → JudgesLastSlip last_slip o engine
 
--- an open was answered 0
-abbrev pub IsOpenAccepted : Reply → Type 0
-IsOpenAccepted r = (o : OpenReply) × (r ≡ OpenedReply o) × (o.answer ≡ Ok tt)
+  -- What holds at the same moment besides the law.
+  pub record AlsoHolds (t : Tally) (moment : Moment) : Type 0 where
+    -- The calls that reading a journal of so many pairs takes at most are enough for an open.
+    pub prompt : (medium : Medium) (books : Side → Holdings) → moment.phase ≡ shut medium books
+        → 1 + 2 * pairs ≤ medium.calls_left
+        → (r : Reply) (after : Moment) → LeadsTo h most_calls moment open_order r after
+        → IsOpenAccepted r
+    -- An open is refused only with 13: no calls left.
+    pub refused : (r : Reply) (after : Moment) → LeadsTo h most_calls moment open_order r after
+        → (o : OpenReply) (f : Fault) → r ≡ ToOpen o → o.answer ≡ Err f
+        → number_of f.refusal ≡ 13
+    -- The device keeps the tally as a journal also while no engine runs, or one whose opening was
+    -- refused.
+    pub journal : Journal (blocks_for_books h pairs) (medium_in moment.phase) t.list t.in_hand
 
-module _ (h : Rulebook) (most pairs : ℕ) where
-  -- The law at the moment b, to which the calls cs, answered rs, have led from a format. `told` is
-  -- what the last of the known slips among them tells: in the law itself it is read off the run, by
-  -- `last_closing`. All is said by the tally of just these calls and answers.
-  pub record Law (cs : List Order) (rs : List Reply) (told : Option Contents) (b : Moment)
-      : Type 0 where
-    -- on every engine that is open or down the tally stands, and the device keeps it
-    pub stands : (v : View) → b.phase ≡ running v → opening_answer v.mode ≡ Ok tt
-        → Stands h (tally cs rs).list v
-    pub keeps : (v : View) → b.phase ≡ running v → opening_answer v.mode ≡ Ok tt
-        → Journal (blocks_for_books h pairs) v.medium (tally cs rs).list (tally cs rs).hand
-    -- nothing is in hand on an engine that is open, and on one that is down what was cut short
-    pub idle : (v : View) → b.phase ≡ running v → v.mode ≡ Open → (tally cs rs).hand ≡ None
-    pub hand : (v : View) → b.phase ≡ running v
-        → (x : Instruction) → v.mode ≡ Down x → (tally cs rs).hand ≡ Some x
-    -- while it is shut, the last known slip tells the tally
-    pub slip : (m : Medium) (books : Side → Holdings) → b.phase ≡ shut m books
-        → TellsTally told (tally cs rs)
-    -- an open that comes next, of a device with calls enough, is answered 0
-    pub prompt : (m : Medium) (books : Side → Holdings) → b.phase ≡ shut m books
-        → enough_to_open ≤ m.calls_left
-        → (r : Reply) (z : Moment) → LeadsTo h most b open_order r z → IsOpenAccepted r
-    -- and after one that is answered 0, the verdict on that closing's slip, if any, is 0 or 1
-    pub verdict : (r : Reply) (z : Moment) → LeadsTo h most b open_order r z
-        → (o : OpenReply) (v : View) → r ≡ OpenedReply o → o.answer ≡ Ok tt → z.phase ≡ running v
-        → Judged told o v
-
-  -- More that holds at the same moment, and is not promised.
-  pub record Beyond (cs : List Order) (rs : List Reply) (b : Moment) : Type 0 where
-    -- the calls that reading a journal of so many pairs takes at most are enough
-    pub prompt : (m : Medium) (books : Side → Holdings) → b.phase ≡ shut m books
-        → 1 + 2 * pairs ≤ m.calls_left
-        → (r : Reply) (z : Moment) → LeadsTo h most b open_order r z → IsOpenAccepted r
-    -- an open is refused for want of calls only
-    pub refused : (r : Reply) (z : Moment) → LeadsTo h most b open_order r z
-        → (o : OpenReply) (f : Fault) → r ≡ OpenedReply o → o.answer ≡ Err f → number_of f.refusal ≡ 13
-    -- the device keeps the tally, and what is in hand, also while no engine runs
-    pub keeps : Journal (blocks_for_books h pairs) (medium_in b.phase)
-        (tally cs rs).list (tally cs rs).hand
-
+-- Here `makes` is what the device's kind says of each call, and `means` what a device means.
 module _ {D : Type 0} (makes : D → DeviceCall → D → Type 0) (means : D → Medium)
     (h : Rulebook) where
-  -- what a format answered r leaves of the device d
-  pub record AfterFormat (pairs : ℕ) (d : D) (r : Answer) (e : D) : Type 0 where
+  -- A format of the device d is answered r, and leaves the device e.
+  pub record FormatLeaves (pairs : ℕ) (d : D) (r : Answer) (e : D) : Type 0 where
     pub answer : format_answer pairs (means d) ≡ r
-    -- with 61 nothing was done
-    pub refused : no_room pairs (means d).size ≡ true → e ≡ d
-    -- else its calls were made, up to the first that found none left
+    -- If there is no room for so many pairs, which is refused with 61, nothing was done.
+    pub unchanged : no_room pairs (means d).size ≡ true → e ≡ d
+    -- Else a header and no good mark were written, as far as the calls left went,
     pub after : no_room pairs (means d).size ≡ false
         → Formats (header_bytes (header_for_books h pairs)) pairs (means d) (means e)
+    -- by these calls of the device.
     pub trace : IsTrace makes
-        (format_calls (header_bytes (header_for_books h pairs)) pairs (means d).size (means d).calls_left) d e
+        (format_calls (header_bytes (header_for_books h pairs)) pairs
+        (means d).size (means d).calls_left)
+        d e
 
-  module _ (most pairs : ℕ) (d : D) (books : Side → Holdings) where
-    -- A format of d with so many pairs was answered 0, and from there the calls cs, answered rs,
-    -- led to the moment b and the device e.
-    pub record RunFromFormat (cs : List Order) (rs : List Reply) (b : Moment) (e : D) : Type 0 where
+  module _ (most_calls pairs : ℕ) (d : D) (books : Side → Holdings) where
+    -- A run: a format of d was answered 0, and from there the calls cs, answered rs, led to the
+    -- moment b and the device e. The books held these amounts at the format.
+    pub record RunFromFormat (cs : List Order) (rs : List Reply) (b : Moment) (e : D)
+        : Type 0 where
+      -- the device after the format
       pub device : D
-      pub format : AfterFormat pairs d (Ok tt) device
-      pub path : Path makes means h most (moment_in (shut (means device) books) None) device cs rs b e
+      pub format : FormatLeaves pairs d (Ok tt) device
+      pub path : Path makes means h most_calls
+          (moment_in (shut (means device) books) None) device cs rs b e
 
-    -- The whole law, where a depository of the device d, and of books that hold these amounts, was
-    -- given the calls cs from its format on.
+    -- The whole promise, where a depository was given the calls cs, and answered rs.
     pub record Survives (cs : List Order) (rs : List Reply) (b : Moment) (e : D) : Type 0 where
-      -- what was done
+      -- The calls and answers are a run.
       pub run : RunFromFormat cs rs b e
-      -- and what holds of every run of such a depository, whatever its calls and their answers
+      -- The law holds of every run of such a depository, whatever its calls and their answers.
       pub law : (cs' : List Order) (rs' : List Reply) (b' : Moment) (e' : D)
-          (other : RunFromFormat cs' rs' b' e') → Law h most pairs cs' rs' (last_closing other.path) b'
+          → (run' : RunFromFormat cs' rs' b' e')
+          → SurvivalLaw h most_calls pairs (tally cs' rs') (last_known_slip run'.path) b'
       pub also : (cs' : List Order) (rs' : List Reply) (b' : Moment) (e' : D)
-          → RunFromFormat cs' rs' b' e' → Beyond h most pairs cs' rs' b'
-      -- every list has one last instruction of a trade, and one last Enter, or none
-      pub words : LastsAreUnique
+          → RunFromFormat cs' rs' b' e' → AlsoHolds h most_calls pairs (tally cs' rs') b'
+      -- "The last instruction of a trade" and "its last Enter", by which `IsStandingList` gives a
+      -- trade's state and terms, are well said: each list has one of them or none.
+      pub lasts : LastsAreUnique
 
-  -- No calls were given, and the depository is as it was made: the format was refused; or there was
-  -- no room for the answers, and nothing was done.
-  abbrev pub Stopped : ℕ → D → (Side → Holdings) → Stop → Moment → D → Type 0
-  Stopped pairs d books (ByFault f) b e =
-      AfterFormat pairs d (Err f) e × (b ≡ moment_in (shut (means e) books) None)
-  Stopped pairs d books (NoMemory x) b e = (e ≡ d) × (b ≡ moment_in (shut (means d) books) None)
+  -- No call was given, and the depository is as it was made. Either its format was refused, or
+  -- there was no memory for the answers, and then nothing was done.
+  abbrev pub GivesNoCalls : ℕ → D → (Side → Holdings) → Stop → Moment → D → Type 0
+  GivesNoCalls pairs d books (ByFault f) b e =
+      FormatLeaves pairs d (Err f) e × (b ≡ moment_in (shut (means e) books) None)
+  GivesNoCalls pairs d books (NoMemory x) b e =
+      (e ≡ d) × (b ≡ moment_in (shut (means d) books) None)

@@ -5,48 +5,71 @@ use instruction::Instruction;
 use refusals::{Fault, Refusal};
 use rulebook::State;
 
-// What is asked of an engine, which alters nothing.
-#[derive(Clone, Copy)]
+/// A question to the engine, which changes nothing.
+#[derive(Clone, Copy, Debug, PartialEq, Eq)]
 pub enum Question {
+    /// What an account has of an item of the register.
     Securities { account: u16, item: u16 },
+    /// What an account has of a currency, which is an item of the cash book.
     Money { account: u16, currency: u16 },
+    /// The state of the trade with this number, 0 to 127.
     TradeState(u32),
+    /// How many entries stand.
     Entries,
 }
 
-// What it tells.
-#[derive(Clone, Copy)]
+/// The answer to a question that is not refused.
+#[derive(Clone, Copy, Debug, PartialEq, Eq)]
 pub enum Fact {
+    /// To `Question::Securities` and `Question::Money`: the free and the blocked amount.
     Holding(Holding),
+    /// To `Question::TradeState`.
     State(State),
+    /// To `Question::Entries`.
     Entries(u32),
 }
 
-#[derive(Clone, Copy)]
+/// A call of a depository. An instruct, a close and a question want an engine that runs, and a restart
+/// and an open want none: else the call is a misfit, and does nothing.
+#[derive(Clone, Copy, Debug, PartialEq, Eq)]
 pub enum Call<'a> {
+    /// Gives the engine an instruction.
     Instruct(Instruction),
+    /// Closes the engine. If its closing slip is known, the depository owes that one from then on, and
+    /// files the one that it owed before. An unknown slip is filed.
     Close,
+    /// Restarts the device, as after a cut of the power. It then has `calls_left` calls left, or its
+    /// kind's largest number if that is smaller; `remains` matter to what its loose blocks hold.
     Restart { calls_left: u32, remains: &'a [u8] },
+    /// Opens an engine over the device and the books, and presents to it the slip that is owed.
     Open,
+    /// Asks the engine a question.
     Ask(Question),
 }
 
-// What an open is answered: by the engine, with the entries that it found, and by the slip that is
-// owed, if there is one, which is presented to it.
-#[derive(Clone, Copy)]
+/// What an open answers.
+#[derive(Clone, Copy, Debug, PartialEq, Eq)]
 pub struct OpenReply {
+    /// The opening's own answer.
     pub answer: Result<(), Fault>,
+    /// How many entries the opening found: 0 if it was refused.
     pub found: u32,
+    /// What the slip that was owed is answered, or `None` if none was owed. If the opening was refused
+    /// this is 41 (`Refusal::OpeningRefused`), and the slip is still owed.
     pub slip_answer: Option<Result<Verdict, Refusal>>,
 }
 
-#[derive(Clone, Copy)]
+/// What a depository answers to a call.
+#[derive(Clone, Copy, Debug, PartialEq, Eq)]
 pub enum Reply {
-    // a close or a restart, which never refuse
+    /// To a close or a restart, which never refuse.
     Done,
+    /// To an instruct: whether the instruction was accepted.
     ToInstruct(Result<(), Fault>),
+    /// To an open.
     ToOpen(OpenReply),
+    /// To a question.
     ToAsk(Result<Fact, Refusal>),
-    // the call does not fit: it wants an engine where there is none, or a device that an engine has
+    /// The call does not fit: it wants an engine where none runs, or a device that an engine has.
     Misfit,
 }

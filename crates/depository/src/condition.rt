@@ -1,22 +1,27 @@
 // What a depository consists of.
-ghost use Rattle.depository.specs.OwedSlip.{Known};
+ghost use Rattle.depository.specs.OwedSlip.{IsNoneOrKnown};
 
 use book::Book;
 use device::{Device, PoweredDevice};
 use engine::{Engine, Slip};
 
+/// A device and its two books, with or without an engine over them.
 #[derive(Drop)]
 pub enum Condition<D: PoweredDevice, R: Book, C: Book> {
+    /// An engine runs over them.
     Running(Engine<D, R, C>),
-    // the device, the register and the cash book
+    /// No engine runs: the device, the register and the cash book.
     Shut(D, R, C),
 }
 
-// A depository owes the last closing slip that is not unknown, until an engine judges it. It cannot
-// be forgotten while it owes one.
+/// One powered device with the same register and cash book throughout, from its format on. `serve`
+/// makes one.
+///
+/// It owes the last known closing slip until an engine judges it, and cannot be dropped while it owes
+/// one: `finish` files it.
 #[derive(Drop)]
 pub struct Depository<D: PoweredDevice, R: Book, C: Book> {
     pub(crate) condition: Condition<D, R, C>,
     pub(crate) owed: Option<Slip>,
-    ghost known: { Known owed },
+    ghost owes_known: { IsNoneOrKnown owed },
 }

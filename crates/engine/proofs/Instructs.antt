@@ -35,7 +35,8 @@ let-pass {h} {x} {v} e =
     record { mode = p.0; accepted = accepts x (answer h v.standing x) q.0; room = room-passes x v q.1 }
 
 -- an instruction that was let pass, and written and carried out
-pub carried-out : {h : Rulebook} {x : Instruction} {v v' : View} → Ok tt ≡ check_answer h x v → Ok tt ≡ write_entry_answer v.medium v.entry_count
+pub carried-out : {h : Rulebook} {x : Instruction} {v v' : View} → Ok tt ≡ check_answer h x v
+    → Ok tt ≡ write_entry_answer v.medium v.entry_count
     → (LetPass h x v → Accepts x v v') → TakesInstruction h x v v' (Ok tt)
 carried-out {h} {x} {v} {v'} pass written after =
     record {

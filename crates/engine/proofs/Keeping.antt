@@ -37,11 +37,13 @@ pub record Holding (h : Rulebook) (pairs : ℕ) (ys : List Instruction) (v : Vie
 abbrev pub FoundBy : Rulebook → ℕ → List Instruction → Option Instruction → View → Mode → Type 0
 FoundBy h pairs xs hand v Open = (ys : List Instruction) × WithOrWithout xs hand ys × Holding h pairs ys v
 FoundBy h pairs xs hand v (Down x) = ⊥
-FoundBy h pairs xs hand v (Refused f) = (number_of f.refusal ≡ 13) × Journal (blocks_for_books h pairs) v.medium xs hand
+FoundBy h pairs xs hand v (Refused f) =
+    (number_of f.refusal ≡ 13) × Journal (blocks_for_books h pairs) v.medium xs hand
 
 -- What an opening finds on a device that keeps the list and what is in hand. It only reads, and
 -- with enough calls it is not refused.
-pub record OpenedOn (h : Rulebook) (pairs : ℕ) (m : Medium) (xs : List Instruction) (hand : Option Instruction) (v : View) : Type 0 where
+pub record OpenedOn (h : Rulebook) (pairs : ℕ) (m : Medium) (xs : List Instruction) (hand : Option Instruction)
+    (v : View) : Type 0 where
   pub same : SameBlocks m v.medium
   pub fewer : v.medium.calls_left ≤ m.calls_left
   pub prompt : 1 + 2 * pairs ≤ m.calls_left → v.mode ≡ Open

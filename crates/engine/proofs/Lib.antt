@@ -5,7 +5,7 @@ pub mod Cuts
 pub mod Verdicts
 pub mod Finds
 pub mod Openings
-pub mod Standings
+pub mod Findings
 pub mod Keeping
 pub mod Readings
 pub mod Refusals

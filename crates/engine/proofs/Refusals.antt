@@ -24,7 +24,8 @@ pub same-fault : {X : Type 0} (g f : Fault) → ◌≡◌ {A = Result X Fault} (
 same-fault g f e = cc
 
 -- a fault that is another one says the same
-as-said : {X : Type 0} {n : ℕ} {b k : Option ℕ} {g : Fault} (f : Fault) → ◌≡◌ {A = Result X Fault} (Err g) (Err f) → IsFault n b k g → IsFault n b k f
+as-said : {X : Type 0} {n : ℕ} {b k : Option ℕ} {g : Fault} (f : Fault) → ◌≡◌ {A = Result X Fault} (Err g) (Err f)
+    → IsFault n b k g → IsFault n b k f
 as-said {X} {n} {b} {k} {g} f e i = subst (λ x. IsFault n b k x) (same-fault g f e) i
 
 -- an instruction names its trade where its kind is 3 to 7
@@ -46,7 +47,8 @@ module _ (h : Rulebook) (m : Medium) (b : IsBounded m) (f : Fault) where
   abbrev money : ℕ
   money = (h.book_kind cash).code
 
-  fitting-refuses : 0 < m.calls_left → (head : Header) → IsProperHeader head → m.holds 0 ≡ Some (header_bytes head) → fitting_pairs register money m.size head ≡ Err f → RefusesHeader h m f
+  fitting-refuses : 0 < m.calls_left → (head : Header) → IsProperHeader head → m.holds 0 ≡ Some (header_bytes head)
+      → fitting_pairs register money m.size head ≡ Err f → RefusesHeader h m f
   fitting-refuses left head proper holds e =
       elim (cases_Bool (eqb head.register register && eqb head.cash money)) [
         | inl same ↦
@@ -55,26 +57,34 @@ module _ (h : Rulebook) (m : Medium) (b : IsBounded m) (f : Fault) where
             elim (cases_Bool (ltb m.size (1 + 2 * head.pairs))) [
               | inl few ↦
                   let x = sym (cond-true _ _ _ few) ∙ w in
-                  too-few-blocks left head proper holds (eqb-true head.register register q.0) (eqb-true head.cash money q.1) (ltb-true m.size (1 + 2 * head.pairs) few)
+                  too-few-blocks left head proper holds (eqb-true head.register register q.0)
+                  (eqb-true head.cash money q.1) (ltb-true m.size (1 + 2 * head.pairs) few)
                   (as-said f x (record { number = refl; block = refl; entry = refl; trade = refl; rule = refl }))
               | inr enough ↦ let x = sym (cond-false _ _ _ enough) ∙ w in absurd cc
             ]
         | inr other ↦
             let w = sym (cond-false _ _ _ other) ∙ e in
-            other-kinds left head proper holds (λ i j. both_ways (eqb head.register register && eqb head.cash money) other (rw (eq-eqb head.register register i, eq-eqb head.cash money j) refl))
+            other-kinds left head proper holds
+            (λ i j. both_ways (eqb head.register register && eqb head.cash money) other
+            (rw (eq-eqb head.register register i, eq-eqb head.cash money j) refl))
             (as-said f w (record { number = refl; block = refl; entry = refl; trade = refl; rule = refl }))
       ]
 
-  headed-refuses : 0 < m.calls_left → (bs : List ℕ) (r : Result Header Refusal) → m.holds 0 ≡ Some bs → ReadsHeader bs r → header_pairs register money m.size r ≡ Err f → RefusesHeader h m f
+  headed-refuses : 0 < m.calls_left → (bs : List ℕ) (r : Result Header Refusal) → m.holds 0 ≡ Some bs
+      → ReadsHeader bs r → header_pairs register money m.size r ≡ Err f → RefusesHeader h m f
   headed-refuses left bs (Ok head) holds reads e = fitting-refuses left head reads.0 (holds ∙ ap Some (sym reads.1)) e
   headed-refuses left bs (Err r) holds reads e =
-      no-header left bs holds reads.1 (as-said f e (record { number = reads.0; block = refl; entry = refl; trade = refl; rule = refl }))
+      no-header left bs holds reads.1
+      (as-said f e (record { number = reads.0; block = refl; entry = refl; trade = refl; rule = refl }))
 
-  held-refuses : 0 < m.size → 0 < m.calls_left → (o : Option (List ℕ)) → m.holds 0 ≡ o → header_block_answer register money m.size o ≡ Err f → RefusesHeader h m f
+  held-refuses : 0 < m.size → 0 < m.calls_left → (o : Option (List ℕ)) → m.holds 0 ≡ o
+      → header_block_answer register money m.size o ≡ Err f → RefusesHeader h m f
   held-refuses some left None holds e =
-      unreadable-header some left holds (as-said f e (record { number = refl; block = refl; entry = refl; trade = refl; rule = refl }))
+      unreadable-header some left holds
+      (as-said f e (record { number = refl; block = refl; entry = refl; trade = refl; rule = refl }))
   held-refuses some left (Some bs) holds e =
-      headed-refuses left bs (header_in bs) holds (reads-header bs (header_in bs) (b.whole 0 bs holds) (b.bytes 0 bs holds) refl) e
+      headed-refuses left bs (header_in bs) holds
+      (reads-header bs (header_in bs) (b.whole 0 bs holds) (b.bytes 0 bs holds) refl) e
 
   pub header-refuses : read_header_answer register money m ≡ Err f → RefusesHeader h m f
   header-refuses e =
@@ -82,14 +92,16 @@ module _ (h : Rulebook) (m : Medium) (b : IsBounded m) (f : Fault) where
         | inl none ↦
             let q = sym (cond-true _ _ _ none) ∙ e in
             let z = leb-true m.size 0 none in
-            no-block (omega arith) (as-said f q (record { number = refl; block = refl; entry = refl; trade = refl; rule = refl }))
+            no-block (omega arith)
+            (as-said f q (record { number = refl; block = refl; entry = refl; trade = refl; rule = refl }))
         | inr some ↦
             let q = sym (cond-false _ _ _ some) ∙ e in
             let size = leb-false m.size 0 some in
             elim (cases_Bool (eqb m.calls_left 0)) [
               | inl out ↦
                   let w = sym (cond-true _ _ _ out) ∙ q in
-                  no-header-call (omega arith) (eqb-true m.calls_left 0 out) (as-said f w (record { number = refl; block = refl; entry = refl; trade = refl; rule = refl }))
+                  no-header-call (omega arith) (eqb-true m.calls_left 0 out)
+                  (as-said f w (record { number = refl; block = refl; entry = refl; trade = refl; rule = refl }))
               | inr left ↦
                   let w = sym (cond-false _ _ _ left) ∙ q in
                   let calls = eqb-false m.calls_left 0 left in
@@ -98,40 +110,55 @@ module _ (h : Rulebook) (m : Medium) (b : IsBounded m) (f : Fault) where
       ]
 
   module _ (k : ℕ) (s : Standing) (low : k < 2 ^ 32) where
-    rule-refuses : HasGoodMark m k → 2 + 2 * k < m.calls_left → (x : Instruction) → m.holds (record_at k) ≡ Some (record_bytes k x)
-        → (r : Result (Unit {0}) Refusal) → answer h s x ≡ r → rules_answer k x (with_trade x r) ≡ Err f → RefusesEntry h m k s f
+    rule-refuses : HasGoodMark m k → 2 + 2 * k < m.calls_left → (x : Instruction)
+        → m.holds (record_at k) ≡ Some (record_bytes k x)
+        → (r : Result (Unit {0}) Refusal) → answer h s x ≡ r → rules_answer k x (with_trade x r) ≡ Err f
+        → RefusesEntry h m k s f
     rule-refuses mark left x holds (Ok u) is e = absurd cc
     rule-refuses mark left x holds (Err r) is e =
         let same = same-fault {X = Option Instruction} (of_record k (fault_of x r)) f e in
-        rules-refuse mark left x holds r is (subst (λ g. IsRuleFault k x r g) same (rule-said k x r (names_trade (kind_at x.kind)) (names-by-kind x.kind)))
+        rules-refuse mark left x holds r is
+        (subst (λ g. IsRuleFault k x r g) same
+        (rule-said k x r (names_trade (kind_at x.kind)) (names-by-kind x.kind)))
 
-    told-refuses : HasGoodMark m k → 2 + 2 * k < m.calls_left → (bs : List ℕ) (r : Result Instruction Refusal) → m.holds (record_at k) ≡ Some bs → ReadsRecord k bs r
+    told-refuses : HasGoodMark m k → 2 + 2 * k < m.calls_left → (bs : List ℕ) (r : Result Instruction Refusal)
+        → m.holds (record_at k) ≡ Some bs → ReadsRecord k bs r
         → answer_by_record h s k (as_entry_fault k r) ≡ Err f → RefusesEntry h m k s f
-    told-refuses mark left bs (Ok x) holds reads e = rule-refuses mark left x (holds ∙ ap Some (sym reads)) (answer h s x) refl e
+    told-refuses mark left bs (Ok x) holds reads e =
+        rule-refuses mark left x (holds ∙ ap Some (sym reads)) (answer h s x) refl e
     told-refuses mark left bs (Err r) holds reads e =
-        malformed mark left bs holds reads.1 (as-said f e (record { number = reads.0; block = refl; entry = refl; trade = refl; rule = refl }))
+        malformed mark left bs holds reads.1
+        (as-said f e (record { number = reads.0; block = refl; entry = refl; trade = refl; rule = refl }))
 
-    said-refuses : HasGoodMark m k → 2 + 2 * k < m.calls_left → (o : Option (List ℕ)) → m.holds (record_at k) ≡ o → answer_by_record h s k (record_block_answer k o) ≡ Err f → RefusesEntry h m k s f
+    said-refuses : HasGoodMark m k → 2 + 2 * k < m.calls_left → (o : Option (List ℕ)) → m.holds (record_at k) ≡ o
+        → answer_by_record h s k (record_block_answer k o) ≡ Err f → RefusesEntry h m k s f
     said-refuses mark left None holds e =
-        unreadable-record mark left holds (as-said f e (record { number = refl; block = refl; entry = refl; trade = refl; rule = refl }))
+        unreadable-record mark left holds
+        (as-said f e (record { number = refl; block = refl; entry = refl; trade = refl; rule = refl }))
     said-refuses mark left (Some bs) holds e =
-        told-refuses mark left bs (record_in k bs) holds (reads-record k bs (record_in k bs) low (b.whole (record_at k) bs holds) (b.bytes (record_at k) bs holds) refl) e
+        told-refuses mark left bs (record_in k bs) holds
+        (reads-record k bs (record_in k bs) low (b.whole (record_at k) bs holds)
+        (b.bytes (record_at k) bs holds) refl) e
 
     module _ (calls : ℕ) (spent : m.calls_left ≡ calls + (1 + 2 * k)) where
-      record-refuses : HasGoodMark m k → 0 < calls → answer_by_record h s k (read_record_answer (after_reads 1 (with_calls_left calls m)) k) ≡ Err f → RefusesEntry h m k s f
+      record-refuses : HasGoodMark m k → 0 < calls
+          → answer_by_record h s k (read_record_answer (after_reads 1 (with_calls_left calls m)) k) ≡ Err f
+          → RefusesEntry h m k s f
       record-refuses mark some e =
           elim (cases_Bool (eqb (calls - 1) 0)) [
             | inl out ↦
                 let q = sym (ap (answer_by_record h s k) (cond-true _ _ _ out)) ∙ e in
                 let z = eqb-true (calls - 1) 0 out in
-                no-record-call mark (omega arith) (as-said f q (record { number = refl; block = refl; entry = refl; trade = refl; rule = refl }))
+                no-record-call mark (omega arith)
+                (as-said f q (record { number = refl; block = refl; entry = refl; trade = refl; rule = refl }))
             | inr left ↦
                 let q = sym (ap (answer_by_record h s k) (cond-false _ _ _ left)) ∙ e in
                 let z = eqb-false (calls - 1) 0 left in
                 said-refuses mark (omega arith) (m.holds (record_at k)) refl q
           ]
 
-      good-refuses : (t : Bool) → is_good k (m.holds (mark_at k)) ≡ t → 0 < calls → answer_by_mark h (with_calls_left calls m) s k (Ok t) ≡ Err f → RefusesEntry h m k s f
+      good-refuses : (t : Bool) → is_good k (m.holds (mark_at k)) ≡ t → 0 < calls
+          → answer_by_mark h (with_calls_left calls m) s k (Ok t) ≡ Err f → RefusesEntry h m k s f
       good-refuses true is some e = record-refuses (mark-tested m k b is) some e
       good-refuses false is some e = absurd cc
 
@@ -141,7 +168,8 @@ module _ (h : Rulebook) (m : Medium) (b : IsBounded m) (f : Fault) where
             | inl out ↦
                 let q = sym (ap (answer_by_mark h (with_calls_left calls m) s k) (cond-true _ _ _ out)) ∙ e in
                 let z = eqb-true calls 0 out in
-                no-mark-call (omega arith) (as-said f q (record { number = refl; block = refl; entry = refl; trade = refl; rule = refl }))
+                no-mark-call (omega arith)
+                (as-said f q (record { number = refl; block = refl; entry = refl; trade = refl; rule = refl }))
             | inr left ↦
                 let q = sym (ap (answer_by_mark h (with_calls_left calls m) s k) (cond-false _ _ _ left)) ∙ e in
                 let z = eqb-false calls 0 left in

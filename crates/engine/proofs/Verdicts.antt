@@ -34,8 +34,10 @@ refusal-is-not r = refl
 
 apart : (a b : Result Verdict Refusal) → presented_number a ≡ presented_number b → a ≡ b
 apart (Ok v) (Ok w) e = ap (λ x. Ok x) (sym (back v) ∙ ap verdict_at e ∙ back w)
-apart (Ok v) (Err r) e = absurd (both_ways (is_verdict (number_of r)) (refusal-is-not r) (sym (ap is_verdict e) ∙ verdict-is v))
-apart (Err r) (Ok v) e = absurd (both_ways (is_verdict (number_of r)) (refusal-is-not r) (ap is_verdict e ∙ verdict-is v))
+apart (Ok v) (Err r) e =
+    absurd (both_ways (is_verdict (number_of r)) (refusal-is-not r) (sym (ap is_verdict e) ∙ verdict-is v))
+apart (Err r) (Ok v) e =
+    absurd (both_ways (is_verdict (number_of r)) (refusal-is-not r) (ap is_verdict e ∙ verdict-is v))
 apart (Err r) (Err s) e = ap (λ x. Err x) (numbers_tell_apart.apart r s e)
 
 pub presented_apart : PresentedApart

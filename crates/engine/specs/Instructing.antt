@@ -102,11 +102,11 @@ block_without_call k calls_left =
 
 -- When an instruction takes the engine down, and what its fault names.
 pub record TellsWhenDown (h : Rulebook) (x : Instruction) (v v' : View) (r : Answer) : Type 0 where
-  -- the answer is 13 only where the checks pass and fewer than 4 calls are left,
+  -- the answer is 13 only where the instruction passes and the device has fewer than 4 calls left,
   pub only : fault_number r ≡ 13 → Passes h x v × (v.medium.calls_left < 4)
   -- and always there
   pub always : Passes h x v → v.medium.calls_left < 4 → fault_number r ≡ 13
-  -- the instruction is then in hand, and the engine is down
+  -- the engine is then down, with the instruction in hand
   pub hand : fault_number r ≡ 13 → v'.mode ≡ Down x
   -- such a fault names the entry, and the block of a write
   pub cut : (f : Fault) → r ≡ Err f → number_of f.refusal ≡ 13

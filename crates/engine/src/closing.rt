@@ -1,4 +1,4 @@
-// Closing.
+// Closing an engine: its device and its books come out again.
 ghost use Rattle.std.specs.Prelude.{◌≡◌};
 ghost use Rattle.rulebook.specs.Terms.{securities as in_securities, cash as in_cash};
 ghost use Rattle.engine.specs.View.{view};

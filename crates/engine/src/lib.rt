@@ -2,9 +2,9 @@
 //!
 //! It takes a device and two books, finds the list of entries in the device's journal, and from
 //! then on writes each instruction that the rules accept into the journal before it carries it
-//! out. So after a loss of power the list alone leads books and trades to where they stood:
-//! redo-only write-ahead logging (Gray and Reuter, *Transaction Processing*, 1993), with nothing
-//! to undo.
+//! out. So after a loss of power the list alone leads books and trades to where they stood.
+//! (Write-ahead logging with redo and no undo: see Gray and Reuter, *Transaction Processing*,
+//! 1993.)
 //!
 //! - `Engine::open` promises what it finds on a device that may hold anything, and why it is
 //!   refused (clause `found`, by `Opens` of specs/Findings), and that it changes no block
@@ -12,8 +12,8 @@
 //! - `Engine::instruct` promises the answer, what it leaves (`done`, by `TakesInstruction` of
 //!   specs/Instructing), and when it takes the engine down (`cut`).
 //! - `Engine::close` and `Engine::present` promise what the closing slip says (`slip`) and the
-//!   verdict on it (`exact`, by `HasVerdict` of specs/ClosingSlip). A slip cannot be dropped
-//!   unseen.
+//!   verdict on it (`exact`, by `HasVerdict` of specs/ClosingSlip). A slip can be dropped only
+//!   after it was presented or filed.
 //! - Each promises which calls it makes to the device (`trace`).
 //!
 //! It rests on `device` and `book`, which are interfaces, on `ledger` for the rules, and on
@@ -27,5 +27,5 @@ mod instructing;
 mod opening;
 mod slip;
 
-pub use engine::{Engine, FoundEntries, Mode};
+pub use engine::{Engine, Mode};
 pub use slip::{Contents, Slip, Verdict, presented_number};

@@ -62,6 +62,7 @@ pub fn presented_number(presented: Result<Verdict, Refusal>) -> u8
 /// A closing slip: plain numbers that an operator keeps from a closing to the next opening. It is
 /// owed: it cannot be dropped before it is presented to an engine or filed. It says nothing where
 /// the opening of the engine that was closed had been refused.
+#[derive(Debug)]
 pub struct Slip {
     holds: Option<Contents>,
     // presented or filed
@@ -96,8 +97,8 @@ impl Slip {
         self.holds.is_some()
     }
 
-    /// Files the slip unseen by an engine, and gives what it says, if anything. The slip is then
-    /// no longer owed.
+    /// Files the slip, in place of presenting it, and gives what it says, if anything. The slip is
+    /// then no longer owed.
     pub fn file(mut self) -> Option<Contents>
         ensures { result ≡ contents self }
     {

@@ -62,7 +62,7 @@ is_same f g = offset_of f == offset_of g
 abbrev pub uses : Kind → Field → Bool
 uses k f = list_any (is_same f) (fields_of k)
 
--- some field that the kind does not use is not 0
+-- some field that the kind leaves unused is not 0
 abbrev pub has_stray : Kind → Instruction → Bool
 has_stray k i = list_any (λ f. not (uses k f) && not (value_of f i == 0)) all_fields
 
@@ -71,11 +71,11 @@ abbrev pub rank_in : List Field → Field → ℕ
 rank_in [] f = 0
 rank_in (g ∷ gs) f = cond (is_same f g) 0 (suc (rank_in gs f))
 
--- the number for a field among the numbers for all that the kind uses, and 0 if the kind does not use it
+-- the number for a field, of the numbers for all fields that the kind uses; 0 for any other field
 abbrev pub number_for : Kind → List ℕ → Field → ℕ
 number_for k ns f = cond (uses k f) (slice_index ns (rank_in (fields_of k) f)) 0
 
--- the instruction of a kind with these numbers in the fields that the kind uses, and 0 in the others
+-- the instruction of a kind with these numbers in the fields that the kind uses, and 0 elsewhere
 abbrev pub instruction_with : Kind → List ℕ → Instruction
 instruction_with k ns = record {
   kind = code_of k;

@@ -28,8 +28,8 @@ on_trade k t = record {
 abbrev pub of_kind : Kind → Instruction
 of_kind k = on_trade k 0
 
--- byte 0 the kind, byte 1 zero, then the account, the counterparty, the item and the currency, bytes 10
--- and 11 zero, then the trade, the quantity and the amount
+-- byte 0 the kind, byte 1 zero, then the account, the counterparty, the item and the currency,
+-- bytes 10 and 11 zero, then the trade, the quantity and the amount
 abbrev pub bytes_of : Instruction → List ℕ
 bytes_of i =
     i.kind ∷ 0 ∷ (le_bytes (width_of Account) i.account

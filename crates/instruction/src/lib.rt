@@ -1,8 +1,8 @@
 //! An instruction to the depository: its kind, its fields, and its bytes.
 //!
-//! Instructions and their bytes match one to one: `to_bytes` promises it by its clauses `laid_out` and
-//! `read_back`, `from_bytes` by `exact`. Which fields a kind uses is stated once, by `Kind::uses`; the clause
-//! `law` of `has_stray_field` says it again, field by field.
+//! Instructions and their bytes match one to one: `to_bytes` promises it by its clauses `laid_out`
+//! and `read_back`, `from_bytes` by `exact`. Which fields a kind uses is stated once, by
+//! `Kind::uses`; the clause `law` of `has_stray_field` says it again, field by field.
 #![tactic(auto)]
 
 ghost use Rattle.std.specs.Prelude.{◌≡◌, ◌+◌, ◌≤◌, length, Ok};
@@ -117,7 +117,7 @@ impl Kind {
     }
 }
 
-/// An instruction as it comes in. The rules judge whether its kind is known and its fields are in range.
+/// An instruction as it comes in. The rules judge whether its kind is known, and its fields.
 #[derive(Clone, Copy, Debug, Default, PartialEq, Eq)]
 pub struct Instruction {
     /// The kind byte, which may mean no kind.
@@ -174,7 +174,7 @@ impl Instruction {
         }
     }
 
-    /// Whether some field that the kind does not use is not 0.
+    /// Whether some field that the kind leaves unused is not 0.
     #[tactic(auto, using(crate::proofs::Strays::stray_or_zero))]
     pub fn has_stray_field(&self, kind: Kind) -> bool
         ensures value { result ≡ has_stray kind self.now }

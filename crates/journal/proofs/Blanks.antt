@@ -25,7 +25,14 @@ later : (k j : ℕ) → k ≤ j → IsNoMarkBlock k (mark_at j)
 later k j l i h e = omega arith
 
 pub none-blank : (m : Medium) → Blanking 0 m m
-none-blank m = record { size = refl; calls_left = omega arith; holds = λ b u. refl; loose = λ b u. refl; written = λ j h. absurd (omega arith) }
+none-blank m =
+    record {
+      size = refl;
+      calls_left = omega arith;
+      holds = λ b u. refl;
+      loose = λ b u. refl;
+      written = λ j h. absurd (omega arith);
+    }
 
 module _ {k : ℕ} {m m₁ m₂ : Medium} (s : Blanking k m m₁) where
   pub one-more : Write m₁ m₂ (mark_at k) zeros (Ok tt) → Blanking (k + 1) m m₂
@@ -45,7 +52,8 @@ module _ {k : ℕ} {m m₁ m₂ : Medium} (s : Blanking k m m₁) where
       }
 
   -- no call was left for the mark of entry k
-  pub cut-short : {pairs : ℕ} {e : Fault} → k < pairs → 1 + 2 * pairs ≤ m.size → Write m₁ m₂ (mark_at k) zeros (Err e) → BlanksMarks pairs m m₂
+  pub cut-short : {pairs : ℕ} {e : Fault} → k < pairs → 1 + 2 * pairs ≤ m.size
+      → Write m₁ m₂ (mark_at k) zeros (Err e) → BlanksMarks pairs m m₂
   cut-short {pairs} {e} l fits w =
       let r = write-refused w (omega (arith, s.size)) refl in
       let none = r.1 in
@@ -54,10 +62,15 @@ module _ {k : ℕ} {m m₁ m₂ : Medium} (s : Blanking k m m₁) where
         calls_left = omega (arith, w.calls_left, none, s.calls_left);
         holds = λ b u. w.elsewhere.holds b (u k l) ∙ s.holds b (fewer (omega arith) u);
         loose = λ b u h. w.elsewhere.loose b (u k l) ∙ s.loose b (fewer (omega arith) u) ∙ h;
-        no_mark = λ j h i. w.elsewhere.holds (mark_at j) (omega (arith, s.calls_left, none)) ∙ s.written j (omega (arith, s.calls_left, none));
-        old_mark = λ j h i. w.elsewhere.holds (mark_at j) (omega (arith, s.calls_left, none)) ∙ s.holds (mark_at j) (later k j (omega (arith, s.calls_left, none)));
+        no_mark =
+            λ j h i. w.elsewhere.holds (mark_at j) (omega (arith, s.calls_left, none))
+            ∙ s.written j (omega (arith, s.calls_left, none));
+        old_mark =
+            λ j h i. w.elsewhere.holds (mark_at j) (omega (arith, s.calls_left, none))
+            ∙ s.holds (mark_at j) (later k j (omega (arith, s.calls_left, none)));
         old_mark-firm = λ j h i f.
-            w.elsewhere.loose (mark_at j) (omega (arith, s.calls_left, none)) ∙ s.loose (mark_at j) (later k j (omega (arith, s.calls_left, none))) ∙ f;
+            w.elsewhere.loose (mark_at j) (omega (arith, s.calls_left, none))
+            ∙ s.loose (mark_at j) (later k j (omega (arith, s.calls_left, none))) ∙ f;
         firm = λ h. absurd (omega (arith, s.calls_left, none));
       }
 

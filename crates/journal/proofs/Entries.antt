@@ -7,12 +7,14 @@ use Rattle.device.specs.Calls.{Answer, Write, Sync}
 use Rattle.device.proofs.Answered.{write-passed, write-refused, sync-passed, sync-refused}
 use Rattle.journal.specs.Journal.{record_at, mark_at, WritesEntry}
 
-module _ (k : ℕ) (entry mark : List ℕ) {m₀ m₁ m₂ : Medium} (w : Write m₀ m₁ (record_at k) entry (Ok tt)) (s : Sync m₁ m₂ (Ok tt)) where
+module _ (k : ℕ) (entry mark : List ℕ) {m₀ m₁ m₂ : Medium} (w : Write m₀ m₁ (record_at k) entry (Ok tt))
+    (s : Sync m₁ m₂ (Ok tt)) where
   begun : m₀.calls_left ≡ m₂.calls_left + 2
   begun = let p = (write-passed w).calls in let q = sync-passed s in omega (arith, w.calls_left, s.calls_left, p, q)
 
   -- there was no call for the mark
-  pub mark-refused : {m₃ : Medium} {f : Fault} → Write m₂ m₃ (mark_at k) mark (Err f) → mark_at k < m₂.size → length mark ≡ 256 → WritesEntry entry mark k m₀ m₃
+  pub mark-refused : {m₃ : Medium} {f : Fault} → Write m₂ m₃ (mark_at k) mark (Err f) → mark_at k < m₂.size
+      → length mark ≡ 256 → WritesEntry entry mark k m₀ m₃
   mark-refused {m₃} {f} x l full =
       let none = (write-refused x l full).1 in
       record {
@@ -52,8 +54,11 @@ module _ (k : ℕ) (entry mark : List ℕ) {m₀ m₁ m₂ : Medium} (w : Write 
       calls_left = omega (arith, last r t, begun, written);
       holds = λ b n p. t.holds b ∙ x.elsewhere.holds b p ∙ s.holds b ∙ w.elsewhere.holds b n;
       loose = λ b n p f. still r t b (x.elsewhere.loose b p ∙ s.loose b);
-      new_record = λ l. t.holds (record_at k) ∙ x.elsewhere.holds (record_at k) (λ e. omega arith) ∙ s.holds (record_at k) ∙ w.here;
-      new_record-firm = λ l. still r t (record_at k) (x.elsewhere.loose (record_at k) (λ e. omega arith) ∙ s.loose (record_at k));
+      new_record =
+          λ l. t.holds (record_at k) ∙ x.elsewhere.holds (record_at k) (λ e. omega arith) ∙ s.holds (record_at k)
+          ∙ w.here;
+      new_record-firm =
+          λ l. still r t (record_at k) (x.elsewhere.loose (record_at k) (λ e. omega arith) ∙ s.loose (record_at k));
       old_mark = λ l. absurd (omega (arith, begun));
       old_mark-firm = λ l. absurd (omega (arith, begun));
       new_mark = λ l. t.holds (mark_at k) ∙ x.here;

@@ -23,7 +23,8 @@ zero-from : (xs : List ℕ) (n w : ℕ) → length xs ≡ n → ZeroFrom n (xs +
 zero-from xs n w l i h = get_or-append_right xs (replicate w 0) n i 0 l h ∙ zeros-read w (i - n)
 
 -- four bytes of a number have it
-four-of : (n : ℕ) → n < 2 ^ 32 → n % 256 + 2 ^ 8 * (n / 256 % 256) + 2 ^ 16 * (n / 256 / 256 % 256) + 2 ^ 24 * (n / 256 / 256 / 256 % 256) ≡ n
+four-of : (n : ℕ) → n < 2 ^ 32
+    → n % 256 + 2 ^ 8 * (n / 256 % 256) + 2 ^ 16 * (n / 256 / 256 % 256) + 2 ^ 24 * (n / 256 / 256 / 256 % 256) ≡ n
 four-of n l = let e : le_number (le_bytes 4 n) ≡ n = le-bytes 4 n l in omega (arith, e)
 
 pub mark-placed : (k : ℕ) → k < 2 ^ 32 → MarkPlaces k (mark_bytes k)
@@ -43,8 +44,10 @@ record-placed k x l =
       count = refl;
       instruction = λ i h.
           let same : 8 + i - 8 ≡ i = omega arith in
-          get_or-append_right (le_bytes 4 k ++ (1 ∷ 0 ∷ 0 ∷ 0 ∷ [])) (bytes_of x ++ replicate 216 0) 8 (8 + i) 0 refl (omega arith)
-          ∙ ap (λ j. get_or (bytes_of x ++ replicate 216 0) j 0) same ∙ get_or_append_left (bytes_of x) (replicate 216 0) 0 i (omega arith);
+          get_or-append_right (le_bytes 4 k ++ (1 ∷ 0 ∷ 0 ∷ 0 ∷ [])) (bytes_of x ++ replicate 216 0) 8 (8 + i) 0 refl
+          (omega arith)
+          ∙ ap (λ j. get_or (bytes_of x ++ replicate 216 0) j 0) same
+          ∙ get_or_append_left (bytes_of x) (replicate 216 0) 0 i (omega arith);
       rest = zero-from (le_bytes 4 k ++ (1 ∷ 0 ∷ 0 ∷ 0 ∷ bytes_of x)) 40 216 refl;
     }
 
@@ -61,10 +64,16 @@ header-placed h l =
     }
 
 -- a format that was answered 0
-pub format-placed : (register cash pairs : ℕ) (m m' : Medium) → pairs < 2 ^ 32 → pairs + 4 < m.calls_left → Formats (header_bytes (header_for_kinds register cash pairs)) pairs m m' → FormatPlaces register cash pairs m m'
+pub format-placed : (register cash pairs : ℕ) (m m' : Medium) → pairs < 2 ^ 32 → pairs + 4 < m.calls_left
+    → Formats (header_bytes (header_for_kinds register cash pairs)) pairs m m' → FormatPlaces register cash pairs m m'
 format-placed register cash pairs m m' few calls f =
     record {
-      head = (header_bytes (header_for_kinds register cash pairs), f.new_header (omega arith), header-placed (header_for_kinds register cash pairs) few);
+      head = (
+        header_bytes (header_for_kinds register cash pairs),
+        f.new_header (omega arith),
+        header-placed
+            (header_for_kinds register cash pairs) few,
+      );
       even = λ j l h. (
         zeros,
         ap m'.holds (omega arith) ∙ f.no_mark (j - 1) (omega arith) (omega arith),
@@ -76,7 +85,8 @@ format-placed register cash pairs m m' few calls f =
     }
 
 -- an entry that was written whole
-pub entry-placed : (k : ℕ) (x : Instruction) (m m' : Medium) → k < 2 ^ 32 → 3 < m.calls_left → WritesEntry (record_bytes k x) (mark_bytes k) k m m' → EntryPlaces k x m m'
+pub entry-placed : (k : ℕ) (x : Instruction) (m m' : Medium) → k < 2 ^ 32 → 3 < m.calls_left
+    → WritesEntry (record_bytes k x) (mark_bytes k) k m m' → EntryPlaces k x m m'
 entry-placed k x m m' low calls e =
     record {
       entry = (record_bytes k x, ap m'.holds (omega arith) ∙ e.new_record (omega arith), record-placed k x low);

@@ -31,7 +31,8 @@ first-marks n (suc m) zs l =
     elim (cases_eq n (suc m)) [
       | inl e ↦
           let count : n ≡ length (mark_writes (suc m)) = e ∙ sym (mark-count (suc m)) in
-          ap (λ (k : ℕ). take k (mark_writes (suc m) ++ zs)) count ∙ take-append_seam (mark_writes (suc m)) zs ∙ ap mark_writes (sym e)
+          ap (λ (k : ℕ). take k (mark_writes (suc m) ++ zs)) count ∙ take-append_seam (mark_writes (suc m)) zs
+          ∙ ap mark_writes (sym e)
       | inr d ↦
           let last = writing (mark_at m) zeros ∷ [] in
           ap (λ (ws : List DeviceCall). take n (ws ++ zs)) (ap mark_writes (sym (add-one m)) ∙ more-marks m)
@@ -40,19 +41,24 @@ first-marks n (suc m) zs l =
 
 module _ {D : Type 0} (makes : D → DeviceCall → D → Type 0) (d₀ d₁ d₂ : D) where
   -- the mark of one entry more
-  pub mark-more : (k : ℕ) → IsTrace makes (mark_writes k) d₀ d₁ → makes d₁ (writing (mark_at k) zeros) d₂ → IsTrace makes (mark_writes (k + 1)) d₀ d₂
+  pub mark-more : (k : ℕ) → IsTrace makes (mark_writes k) d₀ d₁ → makes d₁ (writing (mark_at k) zeros) d₂
+      → IsTrace makes (mark_writes (k + 1)) d₀ d₂
   mark-more k t m = rw (more-marks k) (traced-last makes (mark_writes k) (writing (mark_at k) zeros) d₀ d₁ d₂ t m)
 
   -- no call was left for the mark of entry k
-  pub marks-cut : (k pairs left : ℕ) → left ≡ k → k < pairs → IsTrace makes (mark_writes k) d₀ d₁ → makes d₁ (writing (mark_at k) zeros) d₂ → IsTrace makes (take (left + 1) (mark_writes pairs ++ (syncing ∷ []))) d₀ d₂
+  pub marks-cut : (k pairs left : ℕ) → left ≡ k → k < pairs → IsTrace makes (mark_writes k) d₀ d₁
+      → makes d₁ (writing (mark_at k) zeros) d₂
+      → IsTrace makes (take (left + 1) (mark_writes pairs ++ (syncing ∷ []))) d₀ d₂
   marks-cut k pairs left e l t m =
       let n : left + 1 ≡ k + 1 = omega arith in
       let made : take (left + 1) (mark_writes pairs ++ (syncing ∷ [])) ≡ mark_writes (k + 1) =
-      ap (λ (i : ℕ). take i (mark_writes pairs ++ (syncing ∷ []))) n ∙ first-marks (k + 1) pairs (syncing ∷ []) (omega arith) in
+      ap (λ (i : ℕ). take i (mark_writes pairs ++ (syncing ∷ []))) n
+      ∙ first-marks (k + 1) pairs (syncing ∷ []) (omega arith) in
       rw made (mark-more k t m)
 
   -- all marks were written, and a sync was asked for
-  pub marks-synced : (pairs left : ℕ) → pairs ≤ left → IsTrace makes (mark_writes pairs) d₀ d₁ → makes d₁ syncing d₂ → IsTrace makes (take (left + 1) (mark_writes pairs ++ (syncing ∷ []))) d₀ d₂
+  pub marks-synced : (pairs left : ℕ) → pairs ≤ left → IsTrace makes (mark_writes pairs) d₀ d₁ → makes d₁ syncing d₂
+      → IsTrace makes (take (left + 1) (mark_writes pairs ++ (syncing ∷ []))) d₀ d₂
   marks-synced pairs left l t m =
       let count = length-append (mark_writes pairs) (syncing ∷ []) in
       let all = take_all (left + 1) (mark_writes pairs ++ (syncing ∷ [])) (omega (arith, count, mark-count pairs)) in
@@ -69,23 +75,35 @@ blank-count : (pairs : ℕ) → length (blank pairs) ≡ pairs + 1
 blank-count pairs = omega (arith, length-append (mark_writes pairs) (syncing ∷ []), mark-count pairs)
 
 module _ (header : List ℕ) (pairs size left : ℕ) where
-  by-steps : no_room pairs size ≡ false → format_calls header pairs size left ≡ take (left + 1) (put zeros ++ (blank pairs ++ put header))
-  by-steps room = cond-false _ _ _ room ∙ ap (λ (cs : List DeviceCall). take (left + 1) (put zeros ++ cs)) (sym (append_assoc (mark_writes pairs) (syncing ∷ []) (put header)))
+  by-steps : no_room pairs size ≡ false
+      → format_calls header pairs size left ≡ take (left + 1) (put zeros ++ (blank pairs ++ put header))
+  by-steps room =
+      cond-false _ _ _ room
+      ∙ ap (λ (cs : List DeviceCall). take (left + 1) (put zeros ++ cs))
+      (sym (append_assoc (mark_writes pairs) (syncing ∷ []) (put header)))
 
-  module _ (room : no_room pairs size ≡ false) {D : Type 0} (makes : D → DeviceCall → D → Type 0) (d₀ d₁ : D) (one : IsTrace makes (take (left + 1) (put zeros)) d₀ d₁) where
+  module _ (room : no_room pairs size ≡ false) {D : Type 0} (makes : D → DeviceCall → D → Type 0) (d₀ d₁ : D)
+      (one : IsTrace makes (take (left + 1) (put zeros)) d₀ d₁) where
     -- the calls lasted to the zeros in place of the header,
     pub track-first : left < 2 → IsTrace makes (format_calls header pairs size left) d₀ d₁
     track-first l = rw (by-steps room) (traced-off makes (put zeros) (blank pairs ++ put header) left d₀ d₁ l one)
 
-    module _ (left₁ : ℕ) (spent : left ≡ left₁ + 2) (d₂ : D) (two : IsTrace makes (take (left₁ + 1) (blank pairs)) d₁ d₂) where
+    module _ (left₁ : ℕ) (spent : left ≡ left₁ + 2) (d₂ : D)
+        (two : IsTrace makes (take (left₁ + 1) (blank pairs)) d₁ d₂) where
       -- or to those in place of the marks,
       pub track-second : left₁ ≤ pairs → IsTrace makes (format_calls header pairs size left) d₀ d₂
       track-second l =
-          let short = traced-off makes (blank pairs) (put header) left₁ d₁ d₂ (omega (arith, blank-count pairs)) two in
-          rw (by-steps room) (traced-on makes (put zeros) (blank pairs ++ put header) left left₁ d₀ d₁ d₂ spent one short)
+          let short = traced-off makes (blank pairs) (put header) left₁ d₁ d₂
+          (omega (arith, blank-count pairs)) two in
+          rw (by-steps room)
+          (traced-on makes (put zeros) (blank pairs ++ put header) left left₁ d₀ d₁ d₂ spent one short)
 
       -- or to the header
-      pub track-all : (left₂ : ℕ) → left₁ ≡ left₂ + (pairs + 1) → (d₃ : D) → IsTrace makes (take (left₂ + 1) (put header)) d₂ d₃ → IsTrace makes (format_calls header pairs size left) d₀ d₃
+      pub track-all : (left₂ : ℕ) → left₁ ≡ left₂ + (pairs + 1) → (d₃ : D)
+          → IsTrace makes (take (left₂ + 1) (put header)) d₂ d₃
+          → IsTrace makes (format_calls header pairs size left) d₀ d₃
       track-all left₂ less d₃ three =
-          let rest = traced-on makes (blank pairs) (put header) left₁ left₂ d₁ d₂ d₃ (omega (arith, less, blank-count pairs)) two three in
-          rw (by-steps room) (traced-on makes (put zeros) (blank pairs ++ put header) left left₁ d₀ d₁ d₃ spent one rest)
+          let rest = traced-on makes (blank pairs) (put header) left₁ left₂ d₁ d₂ d₃
+          (omega (arith, less, blank-count pairs)) two three in
+          rw (by-steps room)
+          (traced-on makes (put zeros) (blank pairs ++ put header) left left₁ d₀ d₁ d₃ spent one rest)

@@ -27,7 +27,8 @@ zeros-no-mark k h e =
 pub mark-is : (k : ℕ) → k < 2 ^ 32 → is_mark k (mark_bytes k) ≡ true
 mark-is k h =
     let a : eqb (le_number (le_bytes 4 k)) k ≡ true = eq-eqb _ _ (le-bytes 4 k h) in
-    let b : eqb (le_number (le_bytes 4 (4294967295 - k))) (4294967295 - k) ≡ true = eq-eqb _ _ (le-bytes 4 (4294967295 - k) (omega arith)) in
+    let b : eqb (le_number (le_bytes 4 (4294967295 - k))) (4294967295 - k) ≡ true = eq-eqb _ _
+    (le-bytes 4 (4294967295 - k) (omega arith)) in
     rw (a, b)
 
 pub record-read : (k : ℕ) (x : Instruction) → k < 2 ^ 32 → Fit x → record_in k (record_bytes k x) ≡ Ok x
@@ -35,7 +36,8 @@ record-read k x h f =
     let a : eqb (le_number (le_bytes 4 k)) k ≡ true = eq-eqb _ _ (le-bytes 4 k h) in
     rw a (there x f)
 
-pub header-read : (h : Header) → h.register < 256 → h.cash < 256 → 0 < h.pairs → h.pairs ≤ MOST_PAIRS → header_in (header_bytes h) ≡ Ok h
+pub header-read : (h : Header) → h.register < 256 → h.cash < 256 → 0 < h.pairs → h.pairs ≤ MOST_PAIRS
+    → header_in (header_bytes h) ≡ Ok h
 header-read h r c low high =
     let p : le_number (le_bytes 4 h.pairs) ≡ h.pairs = le-bytes 4 h.pairs (omega arith) in
     let a : ltb 0 (le_number (le_bytes 4 h.pairs)) ≡ true = lt-ltb _ _ (omega arith) in
@@ -56,10 +58,12 @@ zeros-are (b ∷ bs) (suc n) l h =
 
 part-rest : (w i j : ℕ) (bs : List ℕ) → j ≡ i + w → j ≤ length bs → drop i bs ≡ bytes_from i w bs ++ drop j bs
 part-rest zero i j bs e l = ap (λ (n : ℕ). drop n bs) (omega arith)
-part-rest (suc w) i j bs e l = drop-cons bs i 0 (omega arith) ∙ ap (λ (t : List ℕ). get_or bs i 0 ∷ t) (part-rest w (suc i) j bs (omega arith) l)
+part-rest (suc w) i j bs e l =
+    drop-cons bs i 0 (omega arith) ∙ ap (λ (t : List ℕ). get_or bs i 0 ∷ t) (part-rest w (suc i) j bs (omega arith) l)
 
 -- a test of a reading that was passed
-passed : {X : Type 0} (b : Bool) (r : Result X Refusal) (e : Refusal) (x : X) → cond b r (Err e) ≡ Ok x → (b ≡ true) × (r ≡ Ok x)
+passed : {X : Type 0} (b : Bool) (r : Result X Refusal) (e : Refusal) (x : X) → cond b r (Err e) ≡ Ok x
+    → (b ≡ true) × (r ≡ Ok x)
 passed true r e x h = (refl, h)
 passed false r e x h =
     absurd cc
@@ -69,7 +73,8 @@ refuses h =
     cc
 
 -- a reading whose every refusal is e
-refused : {X : Type 0} (b : Bool) (r : Result X Refusal) (e f : Refusal) → ((g : Refusal) → r ≡ Err g → g ≡ e) → Err f ≡ cond b r (Err e) → f ≡ e
+refused : {X : Type 0} (b : Bool) (r : Result X Refusal) (e f : Refusal) → ((g : Refusal) → r ≡ Err g → g ≡ e)
+    → Err f ≡ cond b r (Err e) → f ≡ e
 refused true r e f only h = only f (sym h)
 refused false r e f only h = cc
 
@@ -97,7 +102,8 @@ module _ (bs : List ℕ) (l : length bs ≡ 256) (small : (i : ℕ) → get_or b
       let q = and_parts (eqb (number_at 4 4 bs) 1) _ p.1 in
       let a = four 0 k p.0 in
       let b : le_bytes 4 1 ≡ bytes_from 4 4 bs = four 4 1 q.0 in
-      let body = (subst (Reads (take 32 (drop 8 bs))) t.1 (reads (take 32 (drop 8 bs)) (cut-bytes bs 32 8 small))).1 in
+      let body = (subst (Reads (take 32 (drop 8 bs))) t.1
+      (reads (take 32 (drop 8 bs)) (cut-bytes bs 32 8 small))).1 in
       let z = rest-zero 40 216 refl q.1 in
       (λ i. a i ++ (b i ++ (body i ++ z i)))
       ∙ ap (λ (t : List ℕ). bytes_from 0 8 bs ++ (take 32 (drop 8 bs) ++ t)) (sym (drop-drop 32 8 bs))
@@ -115,31 +121,42 @@ module _ (bs : List ℕ) (l : length bs ≡ 256) (small : (i : ℕ) → get_or b
       let one = sym (eqb-true (get_or bs 0 0) 1 p.0) in
       let two = sym (eqb-true (get_or bs 1 0) 2 q.0) in
       let n = part-back 4 4 bs small in
-      let z = rest-zero 8 248 refl s.1 in
-      (record { register = small 2; cash = small 3; some = ltb-true _ _ r.0; few = leb-true _ _ s.0 }, (λ i. one i ∷ two i ∷ get_or bs 2 0 ∷ get_or bs 3 0 ∷ (n i ++ z i)) ∙ sym (part-rest 8 0 8 bs refl (omega arith)))
+      let z = rest-zero 8 248 refl s.1 in (
+        record { register = small 2; cash = small 3; some = ltb-true _ _ r.0; few = leb-true _ _ s.0 },
+        (λ i. one i ∷ two i ∷ get_or bs 2 0 ∷ get_or bs 3 0 ∷ (n i ++ z i))
+            ∙ sym (part-rest 8 0 8 bs refl (omega arith)),
+      )
 
-pub read-header : (bs : List ℕ) (h : Header) → length bs ≡ 256 → ((i : ℕ) → get_or bs i 0 < 256) → header_in bs ≡ Ok h → IsProperHeader h × (header_bytes h ≡ bs)
+pub read-header : (bs : List ℕ) (h : Header) → length bs ≡ 256 → ((i : ℕ) → get_or bs i 0 < 256)
+    → header_in bs ≡ Ok h → IsProperHeader h × (header_bytes h ≡ bs)
 read-header bs h l small e =
     let t = passed (is_header bs) _ NotAHeader h e in
-    let is : record { register = get_or bs 2 0; cash = get_or bs 3 0; pairs = number_at 4 4 bs } ≡ h = cc in
-    (subst IsProperHeader is (header-back bs l small t.0).0, ap header_bytes (sym is) ∙ (header-back bs l small t.0).1)
+    let is : record { register = get_or bs 2 0; cash = get_or bs 3 0; pairs = number_at 4 4 bs } ≡ h = cc in (
+      subst IsProperHeader is (header-back bs l small t.0).0,
+      ap header_bytes (sym is)
+          ∙ (header-back bs l small t.0).1,
+    )
 
 -- both ways
 
-pub reads-mark : (k : ℕ) (bs : List ℕ) → k < 2 ^ 32 → length bs ≡ 256 → ((i : ℕ) → get_or bs i 0 < 256) → ReadsMark k bs (is_mark k bs)
+pub reads-mark : (k : ℕ) (bs : List ℕ) → k < 2 ^ 32 → length bs ≡ 256 → ((i : ℕ) → get_or bs i 0 < 256)
+    → ReadsMark k bs (is_mark k bs)
 reads-mark k bs h l small = record { good = mark-back bs l small k; only = λ e. ap (is_mark k) e ∙ mark-is k h }
 
 malformed : (bs : List ℕ) (e : Refusal) → instruction_in bs ≡ Err e → e ≡ Malformed
-malformed bs e h = refused (eqb (length bs) 32 && unused_zero bs) _ Malformed e (λ g q. absurd (refuses (sym q))) (sym h)
+malformed bs e h =
+    refused (eqb (length bs) 32 && unused_zero bs) _ Malformed e (λ g q. absurd (refuses (sym q))) (sym h)
 
-pub reads-record : (k : ℕ) (bs : List ℕ) (r : Result Instruction Refusal) → k < 2 ^ 32 → length bs ≡ 256 → ((i : ℕ) → get_or bs i 0 < 256) → r ≡ record_in k bs → ReadsRecord k bs r
+pub reads-record : (k : ℕ) (bs : List ℕ) (r : Result Instruction Refusal) → k < 2 ^ 32 → length bs ≡ 256
+    → ((i : ℕ) → get_or bs i 0 < 256) → r ≡ record_in k bs → ReadsRecord k bs r
 reads-record k bs (Ok x) h l small e = record-back bs l small k x (sym e)
 reads-record k bs (Err f) h l small e = (
   ap number_of (refused (is_record k bs) _ Malformed f (malformed (take 32 (drop 8 bs))) e),
   λ x fits is. refuses (e ∙ ap (record_in k) (sym is) ∙ record-read k x h fits),
 )
 
-pub reads-header : (bs : List ℕ) (r : Result Header Refusal) → length bs ≡ 256 → ((i : ℕ) → get_or bs i 0 < 256) → r ≡ header_in bs → ReadsHeader bs r
+pub reads-header : (bs : List ℕ) (r : Result Header Refusal) → length bs ≡ 256 → ((i : ℕ) → get_or bs i 0 < 256)
+    → r ≡ header_in bs → ReadsHeader bs r
 reads-header bs (Ok h) l small e = read-header bs h l small (sym e)
 reads-header bs (Err f) l small e = (
   ap number_of (refused (is_header bs) _ NotAHeader f (λ g q. absurd (refuses (sym q))) e),
@@ -154,7 +171,8 @@ same-test k bs false true a b = a.only (b.good refl)
 same-test k bs false false a b = refl
 
 -- a header whose every test was passed
-pub header-told : (bs : List ℕ) (n : ℕ) → get_or bs 0 0 ≡ 1 → get_or bs 1 0 ≡ 2 → n ≡ number_at 4 4 bs → 1 ≤ n → n ≤ MOST_PAIRS → true ≡ all_zero (drop 8 bs)
+pub header-told : (bs : List ℕ) (n : ℕ) → get_or bs 0 0 ≡ 1 → get_or bs 1 0 ≡ 2 → n ≡ number_at 4 4 bs → 1 ≤ n
+    → n ≤ MOST_PAIRS → true ≡ all_zero (drop 8 bs)
     → Ok (record { register = get_or bs 2 0; cash = get_or bs 3 0; pairs = n }) ≡ header_in bs
 header-told bs n one two is low high z =
     let a : ltb 0 (number_at 4 4 bs) ≡ true = lt-ltb _ _ (omega arith) in
@@ -162,15 +180,20 @@ header-told bs n one two is low high z =
     rw (one, two, a, b, sym z) (λ i. Ok (record { register = get_or bs 2 0; cash = get_or bs 3 0; pairs = is i }))
 
 -- a record read by the record of its instruction: another stands there, or it is that one
-pub record-other : (k : ℕ) (bs : List ℕ) (x : Instruction) → length bs ≡ 256 → ((i : ℕ) → get_or bs i 0 < 256) → instruction_in (take 32 (drop 8 bs)) ≡ Ok x
+pub record-other : (k : ℕ) (bs : List ℕ) (x : Instruction) → length bs ≡ 256 → ((i : ℕ) → get_or bs i 0 < 256)
+    → instruction_in (take 32 (drop 8 bs)) ≡ Ok x
     → (bs ≡ record_bytes k x → ⊥) → Err Malformed ≡ record_in k bs
-record-other k bs x l small h n = unread (is_record k bs) _ (λ t. n (sym (record-back bs l small k x (ap (λ b. cond b (instruction_in (take 32 (drop 8 bs))) (Err Malformed)) t ∙ h))))
+record-other k bs x l small h n = unread (is_record k bs) _
+    (λ t. n
+    (sym (record-back bs l small k x
+    (ap (λ b. cond b (instruction_in (take 32 (drop 8 bs))) (Err Malformed)) t ∙ h))))
   where
     unread : (b : Bool) (r : Result Instruction Refusal) → (b ≡ true → ⊥) → Err Malformed ≡ cond b r (Err Malformed)
     unread true r n = absurd (n refl)
     unread false r n = refl
 
-pub record-same : (k : ℕ) (bs : List ℕ) (x : Instruction) → k < 2 ^ 32 → instruction_in (take 32 (drop 8 bs)) ≡ Ok x → bs ≡ record_bytes k x → Ok x ≡ record_in k bs
+pub record-same : (k : ℕ) (bs : List ℕ) (x : Instruction) → k < 2 ^ 32 → instruction_in (take 32 (drop 8 bs)) ≡ Ok x
+    → bs ≡ record_bytes k x → Ok x ≡ record_in k bs
 record-same k bs x h i e =
     let a : eqb (le_number (le_bytes 4 k)) k ≡ true = eq-eqb _ _ (le-bytes 4 k h) in
     let good : is_record k (record_bytes k x) ≡ true = rw a refl in

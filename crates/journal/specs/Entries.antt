@@ -14,10 +14,9 @@ use Rattle.journal.specs.Blocks.{record_bytes, mark_bytes, is_mark, record_in}
 -- finds no call left.
 abbrev pub write_entry_calls : ℕ → Instruction → ℕ → List DeviceCall
 write_entry_calls k x calls_left =
-    take (calls_left + 1) (
-    writing (record_at k) (record_bytes k x) ∷ syncing
-    ∷ writing (mark_at k) (mark_bytes k) ∷ syncing ∷ []
-    )
+    let record_write = writing (record_at k) (record_bytes k x) in
+    let mark_write = writing (mark_at k) (mark_bytes k) in
+    take (calls_left + 1) (record_write ∷ syncing ∷ mark_write ∷ syncing ∷ [])
 
 -- a read of a whole block
 abbrev pub block_read : ℕ → DeviceCall

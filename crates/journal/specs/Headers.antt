@@ -12,8 +12,8 @@ use Rattle.journal.specs.Entries.{after_reads}
 -- the pairs of a header that is for these kinds of books, on a device of so many blocks
 abbrev pub fitting_pairs : ℕ → ℕ → ℕ → Header → Result ℕ Fault
 fitting_pairs register cash size head =
-    if head.register == register && head.cash == cash then
-    (if nat_lt size (1 + 2 * head.pairs) then Err (fault 45) else Ok head.pairs)
+    if head.register == register && head.cash == cash
+    then (if nat_lt size (1 + 2 * head.pairs) then Err (fault 45) else Ok head.pairs)
     else Err (fault 44)
 
 abbrev pub header_pairs : ℕ → ℕ → ℕ → Result Header Refusal → Result ℕ Fault

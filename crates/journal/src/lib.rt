@@ -3,7 +3,8 @@
 //!
 //! Block 0 holds the header. Entry `k`, counted from 0, has its record in block `2k + 1` and its
 //! mark in block `2k + 2`. The record says the instruction, and the mark says that the record is
-//! complete: redo-only write-ahead logging (Gray and Reuter, *Transaction Processing*, 1993).
+//! complete. (Write-ahead logging with redo and no undo: see Gray and Reuter, *Transaction
+//! Processing*, 1993.)
 //!
 //! `format` promises a journal with no entries (clause `journal`, by `Journal` of specs/Journal),
 //! and `write_entry` that the mark is touched only once the record is safe (clause `after`, by

@@ -1,6 +1,6 @@
 //! Carrying out an instruction that the rules accept.
 ghost use Rattle.std.specs.Prelude.{◌≡◌, Some};
-ghost use Rattle.rulebook.specs.Terms.{securities, cash as money};
+ghost use Rattle.rulebook.specs.Terms.{securities as in_securities, cash as in_cash};
 ghost use Rattle.ledger.specs.Rows.{trade_at, rows_after};
 ghost use Rattle.ledger.specs.View.{book_after};
 
@@ -13,10 +13,10 @@ impl<R: Book, C: Book> Parts<R, C> {
     /// Has the books do what the instruction asks for, and moves its trade on.
     pub(crate) fn carry_out(&mut self, kind: Kind, x: &Instruction)
         ensures register { R.holdings self.new.register
-            ≡ book_after R.book_kind securities (Some kind) x.now
+            ≡ book_after R.book_kind in_securities (Some kind) x.now
             (trade_at self.old.trades.rows x.now.trade) (R.holdings self.old.register) }
         ensures cash { C.holdings self.new.cash
-            ≡ book_after C.book_kind money (Some kind) x.now
+            ≡ book_after C.book_kind in_cash (Some kind) x.now
             (trade_at self.old.trades.rows x.now.trade) (C.holdings self.old.cash) }
         ensures trades { self.new.trades.rows ≡ rows_after (Some kind) x.now self.old.trades.rows }
     {
@@ -27,14 +27,15 @@ impl<R: Book, C: Book> Parts<R, C> {
         }
     }
 
-    // Has the two books do what the instruction asks for, its trade being this one. Their answers are
-    // dropped: the books accept whatever the rules accept.
+    // Has the two books do what the instruction asks for, its trade being this one. Their answers
+    // are dropped: the books accept whatever the rules accept.
     fn move_holdings(&mut self, kind: Kind, trade: &Trade, x: &Instruction)
         ensures register { R.holdings self.new.register
-            ≡ book_after R.book_kind securities (Some kind) x.now trade.now
+            ≡ book_after R.book_kind in_securities (Some kind) x.now trade.now
             (R.holdings self.old.register) }
         ensures cash { C.holdings self.new.cash
-            ≡ book_after C.book_kind money (Some kind) x.now trade.now (C.holdings self.old.cash) }
+            ≡ book_after C.book_kind in_cash (Some kind) x.now trade.now
+            (C.holdings self.old.cash) }
         ensures trades { self.new.trades ≡ self.old.trades }
     {
         let Terms {

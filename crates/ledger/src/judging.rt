@@ -27,7 +27,8 @@ fn enough_free<B: Book>(book: &B, account: u16, item: u16, wanted: u64) -> Resul
 impl<R: Book, C: Book> Parts<R, C> {
     // What an Enter is checked for, once its trade may be entered.
     fn terms_ruling(&self, x: &Instruction) -> Result<(), Refusal>
-        ensures { result ≡ first_refusal (enter_checks (rulebook_of R.book_kind C.book_kind) x.now) }
+        ensures { result
+            ≡ first_refusal (enter_checks (rulebook_of R.book_kind C.book_kind) x.now) }
     {
         if x.account == x.counterparty {
             return Err(Refusal::SameParties);

@@ -1,10 +1,11 @@
 //! The ledger: a table of trades between a register of securities and a cash book.
 //!
-//! It answers every instruction by the rules of the crate `rulebook`, and carries out what they accept.
-//! `Ledger::instruct` promises the rules' answer (`answer`) and where it leads (`by_rules`), that a
-//! refusal changes nothing (`refusal`), the steps of a trade (`table`) and the law of the ledger (`law`):
-//! the accepted instructions alone say each trade's state and terms, and each account's amounts. It rests
-//! on what the trait `book::Book` promises of the two books, whatever they are.
+//! It answers every instruction by the rules of the crate `rulebook`, and carries out what they
+//! accept. `Ledger::instruct` promises the rules' answer (`answer`) and where it leads
+//! (`by_rules`), that a refusal changes nothing (`refusal`), the steps of a trade (`table`) and
+//! the law of the ledger (`law`): the accepted instructions alone say each trade's state and
+//! terms, and each account's amounts. It rests on what the trait `book::Book` promises of the two
+//! books, whatever they are.
 #![tactic(auto)]
 
 ghost use Rattle.std.specs.Prelude.{◌≡◌};
@@ -34,7 +35,8 @@ pub struct Ledger<R: Book, C: Book> {
     parts: Parts<R, C>,
 }
 
-// A contract sees the books and the trades as tables. Accepted instructions led to where a ledger stands.
+// A contract sees the books and the trades as tables. The invariant: some list of accepted
+// instructions leads to where the ledger stands.
 impl<R: Book, C: Book> Model for Ledger<R, C> {
     ghost use Rattle.rulebook.specs.Rules.{IsReachable};
     ghost use Rattle.ledger.specs.View.{Tables, tables_in, rulebook_of, standing_in};
@@ -101,16 +103,17 @@ impl<R: Book, C: Book> Ledger<R, C> {
     ///
     /// - 32 the kind byte is unknown, then 31 a field is filled that the kind has no use for;
     /// - Issue and Pay in: then 21 to 24, as the book's `credit`;
-    /// - Enter: then 30 no such trade, 34 it was entered before, 33 seller and buyer are one account,
+    /// - Enter: then 30 no such trade, 34 it was entered before, 33 seller and buyer are the same,
     ///   21 no such account, 22 no such item or currency, 23 the quantity or the amount is 0;
-    /// - Earmark and Fund: then 30, 35 the trade is not in a state to start from, 25 too little is free;
+    /// - Earmark and Fund: then 30, 35 the trade's state is another, 25 too little is free;
     /// - Settle and Free: then 30 and 35.
     pub fn instruct(&mut self, x: &Instruction) -> Result<(), Fault>
         ensures answer { result
             ≡ fault_answer (rulebook_of R.book_kind C.book_kind) (standing_of self.old) x.now }
         ensures by_rules { FollowsRules (rulebook_of R.book_kind C.book_kind)
             (standing_of self.old) (standing_of self.new) x.now }
-        ensures refusal { RefusalChangesNothing result (standing_of self.old) (standing_of self.new) }
+        ensures refusal { RefusalChangesNothing result
+            (standing_of self.old) (standing_of self.new) }
         ensures table { StateTable }
         ensures law { LawOfTheLedger }
     {

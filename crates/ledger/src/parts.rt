@@ -6,8 +6,8 @@ ghost use Rattle.ledger.specs.View.{standing_in};
 use crate::trades::Trades;
 use book::Book;
 
-// A `Ledger` adds the invariant that accepted instructions led to where its parts stand. Within a call
-// the parts change one after another, and it does not hold.
+// A `Ledger` adds the invariant that accepted instructions led to where its parts stand. Within a
+// call the parts change one after another, and it does not hold.
 #[derive(Drop)]
 pub(crate) struct Parts<R: Book, C: Book> {
     pub(crate) trades: Trades,

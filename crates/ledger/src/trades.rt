@@ -1,5 +1,5 @@
 //! The table of trades.
-// The ghost field of `Trades` sees the imports of this file, so none of them may name `Trades` itself.
+// The ghost field of `Trades` sees the imports of this file, so none of them may name `Trades`.
 ghost use Rattle.std.specs.Prelude.{◌≡◌, Some, length, replicate};
 ghost use Rattle.rulebook.specs.declared.TheConstants.{TRADES};
 ghost use Rattle.ledger.specs.Rows.{unentered_trade, trade_at, rows_with, put_answer, startable_trade};
@@ -53,7 +53,7 @@ impl Trades {
         ensures answer { result ≡ put_answer number }
         ensures after { self.new.rows ≡ rows_with self.old.rows number trade }
     {
-        // By index: after a `get_mut` a proof knows how many rows there are, and not what they hold.
+        // By index: after a `get_mut` a proof knows how many rows there are, not what they hold.
         if number as usize >= TRADES {
             return Err(Refusal::NoTrade);
         }

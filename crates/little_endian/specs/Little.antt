@@ -20,4 +20,5 @@ bytes_from at (suc w) bs = slice_index bs at ∷ bytes_from (suc at) w bs
 -- what is written is read back, and what is read is written back
 pub record EveryWidth : Type 0 where
   pub written : (w n : ℕ) → n < (2 ^ 8) ^ w → le_number (le_bytes w n) ≡ n
-  pub read : (bs : List ℕ) → AllByRecursion (λ b. b < 2 ^ 8) bs → le_bytes (length bs) (le_number bs) ≡ bs
+  pub read :
+      (bs : List ℕ) → AllByRecursion (λ b. b < 2 ^ 8) bs → le_bytes (length bs) (le_number bs) ≡ bs

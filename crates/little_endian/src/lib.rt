@@ -1,7 +1,7 @@
 //! Numbers as bytes, the lowest byte first.
 //!
-//! The clause `undone` of `LittleEndian::from_little_endian` promises for every width that reading undoes
-//! writing and writing undoes reading.
+//! The clause `undone` of `LittleEndian::from_little_endian` promises for every width that reading
+//! undoes writing and writing undoes reading.
 #![tactic(auto)]
 
 ghost use Rattle.std.specs.Prelude.{◌≡◌, ℕ};

@@ -1,4 +1,4 @@
 pub mod Owners
 pub mod Meaning
-pub mod Laws
-pub mod Lot
+pub mod LotLemmas
+pub mod TableLemmas

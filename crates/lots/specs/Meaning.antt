@@ -1,4 +1,4 @@
--- What a book of lots means. Assumes nothing.
+-- What a book of lots means.
 use Rattle.book.specs.Holdings.{Holdings}
 use Rattle.lots.specs.declared.table.Lots.{Lots}
 use Rattle.lots.specs.Owners.{amounts}

@@ -1,27 +1,25 @@
-// A book of numbered lots: 256 items of which each is whole, with one of 64 accounts or with none.
+//! A book of lots: each item is one whole lot, which an account has or no one.
+//!
+//! It is a `Book` of kind 2, with 256 items that each total 1 at most.
 #![tactic(auto)]
 
 mod table;
 
 ghost use Rattle.std.specs.Prelude.{◌≡◌};
 ghost use Rattle.book.specs.Holdings.{nothing};
-ghost use Rattle.book.specs.Rulings.{amount_answer, holding_of};
-ghost use Rattle.lots.specs.Owners.{lots_kind, free_of, blocked_of, at};
+ghost use Rattle.lots.specs.Owners.{lots_kind, free_of, blocked_of};
 ghost use Rattle.lots.specs.Meaning.{meaning};
-ghost use Rattle.lots.specs.Laws;
-ghost use Rattle.lots.specs.Laws.{free-outside, blocked-outside};
+ghost use Rattle.lots.specs.TableLemmas.{one-lot, free-outside, blocked-outside};
 ghost use Rattle.std.proofs.Common.{rules};
 
 use book::{ACCOUNTS, Book, Holding, covers};
 use refusals::Refusal;
-use table::Lot;
 pub use table::Lots;
-
-const ITEMS: u16 = 256;
+use table::{CEILING, ITEMS, Lot};
 
 impl Lot {
-    // How much of the lot an account has: 1 or 0.
-    fn held_by(self, account: u16) -> Holding
+    // What an account has of the lot: 1 or 0, free or blocked.
+    fn holding_of(self, account: u16) -> Holding
         ensures free { result.free ≡ free_of self account }
         ensures blocked { result.blocked ≡ blocked_of self account }
     {
@@ -40,25 +38,13 @@ impl Lot {
 }
 
 impl Lots {
+    /// A book of lots that no one has.
     pub fn new() -> Lots
         ensures { meaning result ≡ nothing }
     {
         Lots {
-            lots: [Lot::Unowned; 256],
+            lots: [Lot::Unowned; ITEMS as usize],
         }
-    }
-
-    // What an account has of an item, where the book has both: each book tests for its own number of items.
-    fn held(&self, account: u16, item: u16) -> Result<Holding, Refusal>
-        ensures { result ≡ amount_answer lots_kind (holding_of (meaning self.now)) account item }
-    {
-        if account >= ACCOUNTS {
-            return Err(Refusal::NoAccount);
-        }
-        if item >= ITEMS {
-            return Err(Refusal::NoItem);
-        }
-        Ok(self.lots[item as usize].held_by(account))
     }
 }
 
@@ -67,9 +53,12 @@ impl Book for Lots {
 
     ghost book_kind = { lots_kind };
 
-    ghost within_limit = { λ b item. Laws.within b.lots b.owned item };
+    ghost within_limit = { λ b item. one-lot b.lots b.owners item };
 
-    ghost nothing_outside = { λ b account item out. (free-outside b.lots b.full b.owned account item out, blocked-outside b.lots b.full b.owned account item out) };
+    ghost nothing_outside = { λ b account item out. (
+      free-outside b.lots b.whole b.owners account item out,
+      blocked-outside b.lots b.whole b.owners account item out,
+    ) };
 
     ghost kind_fits = { Prim.search rules };
 
@@ -86,8 +75,8 @@ impl Book for Lots {
     }
 
     fn block(&mut self, account: u16, item: u16, quantity: u64) -> Result<(), Refusal> {
-        let held = self.held(account, item)?;
-        covers(held.free, quantity, Refusal::OverFree)?;
+        let holding = self.holding(account, item)?;
+        covers(holding.free, quantity, Refusal::OverFree)?;
         self.lots[item as usize] = Lot::Blocked(account);
         Ok(())
     }
@@ -96,19 +85,15 @@ impl Book for Lots {
         if to >= ACCOUNTS {
             return Err(Refusal::NoAccount);
         }
-        let held = self.held(from, item)?;
-        covers(held.blocked, quantity, Refusal::OverBlocked)?;
+        let holding = self.holding(from, item)?;
+        covers(holding.blocked, quantity, Refusal::OverBlocked)?;
         self.lots[item as usize] = Lot::Free(to);
         Ok(())
     }
 
-    // The two questions differ in the field that they give: one function over a field would be no plainer.
-    fn free(&self, account: u16, item: u16) -> Result<u64, Refusal> {
-        self.held(account, item).map(|held| held.free)
-    }
-
-    fn blocked(&self, account: u16, item: u16) -> Result<u64, Refusal> {
-        self.held(account, item).map(|held| held.blocked)
+    fn holding(&self, account: u16, item: u16) -> Result<Holding, Refusal> {
+        self.check_place(account, item)?;
+        Ok(self.lots[item as usize].holding_of(account))
     }
 
     fn items(&self) -> u16 {
@@ -120,6 +105,6 @@ impl Book for Lots {
     }
 
     fn ceiling(&self) -> u64 {
-        1
+        CEILING
     }
 }

@@ -1,5 +1,11 @@
-// The table alone: a file of its own, since a struct with an invariant imports what its file does.
-ghost use Rattle.lots.specs.Owners.{Full, Owned};
+// The table alone: a struct with an invariant imports what its file does.
+ghost use Rattle.lots.specs.Owners.{IsWholeTable, AccountsOwn};
+
+// How many items the book has, numbered from 0.
+pub(crate) const ITEMS: u16 = 256;
+
+// The most that an item may total: a lot is there once.
+pub(crate) const CEILING: u64 = 1;
 
 // Which account has a lot, and whether it is blocked.
 #[derive(Clone, Copy)]
@@ -9,10 +15,11 @@ pub enum Lot {
     Blocked(u16),
 }
 
-// Numbered lots. Each owner is one of the accounts.
+/// A book of lots, in a table on the stack.
 #[derive(Drop)]
 pub struct Lots {
-    pub(crate) lots: [Lot; 256],
-    ghost full: { Full lots },
-    ghost owned: { Owned lots },
+    // By item.
+    pub(crate) lots: [Lot; ITEMS as usize],
+    ghost whole: { IsWholeTable lots },
+    ghost owners: { AccountsOwn lots },
 }

@@ -1,4 +1,4 @@
--- Which of two values holds after a call: the new one where it was accepted, the old one where it was refused.
+-- Which of two values holds after a call: the new one if it was accepted, else the old one.
 use Rattle.std.specs.Prelude.{Ok, Err, Result}
 
 abbrev pub if_ok : {X E Y : Type 0} → Result X E → Y → Y → Y

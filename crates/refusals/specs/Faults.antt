@@ -42,4 +42,10 @@ of_trade t f = record {
 -- the rules refuse the record of entry k, by the fault f
 abbrev pub of_record : ℕ → Fault → Fault
 of_record k f =
-    record { refusal = numbered 47; block = None; entry = Some k; trade = f.trade; rule = Some f.refusal }
+    record {
+      refusal = numbered 47;
+      block = None;
+      entry = Some k;
+      trade = f.trade;
+      rule = Some f.refusal;
+    }

@@ -1,7 +1,8 @@
-//! Why a call was refused: the refusal with its number and place, and the block, entry and trade that it concerns.
+//! Why a call was refused: the refusal, its number and place, and the block, entry and trade that
+//! it concerns.
 //!
-//! The numbers are those that operators and examiners know (docs/RULES.md). `Refusal::number` promises by
-//! its clause `apart` that a number and its refusal each determine the other.
+//! The numbers are those that operators and examiners know (docs/RULES.md). `Refusal::number`
+//! promises by its clause `apart` that a number and its refusal each determine the other.
 #![tactic(auto)]
 
 ghost use Rattle.std.specs.Prelude.{◌≡◌};
@@ -66,7 +67,7 @@ pub enum Refusal {
     OverBlocked = 26,
     /// 30: there is no trade of this number.
     NoTrade = 30,
-    /// 31: a field that the kind of instruction does not use is not 0.
+    /// 31: a field that the kind leaves unused is not 0.
     StrayField = 31,
     /// 32: the kind byte means no kind of instruction.
     UnknownKind = 32,
@@ -92,7 +93,7 @@ pub enum Refusal {
     Malformed = 46,
     /// 47: the rules refuse the instruction of a record. The fault has their refusal too.
     RulesRefuse = 47,
-    /// 61: a format of no pairs, of more than a journal may have, or of more than the device has blocks for.
+    /// 61: a format of no pairs, of more than a journal may have, or of more than the device holds.
     NoRoom = 61,
     /// 71: the line is of no listed form.
     UnlistedLine = 71,
@@ -156,7 +157,7 @@ impl fmt::Display for Refusal {
             Refusal::OverFree => write!(f, "the account has less free"),
             Refusal::OverBlocked => write!(f, "the account has less blocked"),
             Refusal::NoTrade => write!(f, "there is no such trade"),
-            Refusal::StrayField => write!(f, "a field that the kind does not use is not 0"),
+            Refusal::StrayField => write!(f, "a field that the kind leaves unused is not 0"),
             Refusal::UnknownKind => write!(f, "there is no such kind of instruction"),
             Refusal::SameParties => write!(f, "the seller is the buyer"),
             Refusal::EverEntered => write!(f, "the trade was entered before"),

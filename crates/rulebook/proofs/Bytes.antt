@@ -5,7 +5,8 @@ use Rattle.instruction.specs.declared.Kind.TheVariants.{Issue, PayIn, Enter, Ear
 use Rattle.instruction.specs.Kinds.{kind_at}
 use Rattle.rulebook.specs.Table.{Act}
 
--- P holds of every byte with its kind if it holds of the seven kinds with theirs, and of no kind with any other byte
+-- P holds of every byte with its kind if it holds of the seven kinds with theirs, and of no kind
+-- with any other byte
 module _ (P : Act → ℕ → Type 0) (issue : P (Some Issue) 1) (pay-in : P (Some PayIn) 2) (enter : P (Some Enter) 3)
     (earmark : P (Some Earmark) 4) (fund : P (Some Fund) 5) (settle : P (Some Settle) 6) (free : P (Some Free) 7)
     (none : (n : ℕ) → (3 ≤ n → n ≤ 7 → ⊥) → P None n) where

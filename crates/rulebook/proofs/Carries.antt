@@ -29,7 +29,7 @@ module _ (h : Rulebook) (s : Standing) (z : Safe h s) (x : Instruction) where
   Takes k d o = first_refusal (checks (h.book_kind d) (s.book d) (deed k d o m x)) ≡ Ok tt
 
   good : (k : Act) (o : State) → s.state x.trade ≡ o → is_enter k ≡ false → may_start k o ≡ true → Proper h m
-  good k o e i w = ⊎_elim (λ n. absurd (was-entered h k o i w (sym e ∙ n))) (λ p. p) (z.proper x.trade)
+  good k o e i w = ⊎_elim (λ n. absurd (was-entered k o i w (sym e ∙ n))) (λ p. p) (z.proper x.trade)
 
   may-block : (d : Side) → Proper h m → volume d m ≤ (s.book d).free (giver d m) (asset d m)
       → first_refusal (checks (h.book_kind d) (s.book d) (blocking (giver d m) (asset d m) (volume d m))) ≡ Ok tt
@@ -84,7 +84,7 @@ module _ (h : Rulebook) (s : Standing) (z : Safe h s) (x : Instruction) where
       may-block cash (good (Some Fund) o e refl r.from) (ltb-false _ _ (cleared h m s x (Some Fund) o p).1.1.1.1.0)
   takes (Some Settle) d o e p =
       let r = right h (Some Settle) o m s x tt p in
-      may-move d (good (Some Settle) o e refl r.from) (still-blocked d o r.low e (settle-from h d o r.from).0)
+      may-move d (good (Some Settle) o e refl r.from) (still-blocked d o r.low e (settle-from d o r.from).0)
   takes (Some Free) d o e p =
       let r = right h (Some Free) o m s x tt p in
       ⊎_elim (λ (y : has_blocked d o ≡ true). rw y

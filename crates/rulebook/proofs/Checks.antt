@@ -26,8 +26,9 @@ not-false : (b : Bool) → not b ≡ false → b ≡ true
 not-false true e = refl
 not-false false e = sym e
 
--- an accepted instruction on a trade: there is a trade with this number, and its state is one to start from
-pub record Right (h : Rulebook) (k : Act) (o : State) (x : Instruction) : Type 0 where
+-- an accepted instruction on a trade: there is a trade with this number, and its state is one to
+-- start from
+pub record Right (k : Act) (o : State) (x : Instruction) : Type 0 where
   pub low : x.trade < 128
   pub from : may_start k o ≡ true
 
@@ -36,7 +37,7 @@ abbrev pub IsOfTrade : Act → Type 0
 IsOfTrade k = T (names_trade k)
 
 pub right : (h : Rulebook) (k : Act) (o : State) (m : Terms) (s : Standing) (x : Instruction) → IsOfTrade k
-    → first_refusal (all_checks h k o m s x) ≡ Ok tt → Right h k o x
+    → first_refusal (all_checks h k o m s x) ≡ Ok tt → Right k o x
 right h (Some Issue) o m s x t e = absurd t
 right h (Some PayIn) o m s x t e = absurd t
 right h None o m s x t e = absurd t
@@ -48,31 +49,31 @@ pub record Idle (d : Side) (o : State) : Type 0 where
   pub none-blocked : has_blocked d o ≡ false
   pub unsettled : is_settled o ≡ false
 
-pub enter-idle : (h : Rulebook) (d : Side) (o : State) → may_start (Some Enter) o ≡ true → Idle d o
-enter-idle h d o e = record { none-blocked = grind arith; unsettled = grind arith }
+pub enter-idle : (d : Side) (o : State) → may_start (Some Enter) o ≡ true → Idle d o
+enter-idle d o e = record { none-blocked = grind arith; unsettled = grind arith }
 
 pub entered-idle : (d : Side) → Idle d Entered
 entered-idle securities = record { none-blocked = refl; unsettled = refl }
 entered-idle cash = record { none-blocked = refl; unsettled = refl }
 
 -- an Earmark starts where nothing is blocked, a Fund where securities are, a Settle where both are
-pub earmark-idle : (h : Rulebook) (d : Side) (o : State) → may_start (Some Earmark) o ≡ true → Idle d o
-earmark-idle h d o e = record { none-blocked = grind arith; unsettled = grind arith }
+pub earmark-idle : (d : Side) (o : State) → may_start (Some Earmark) o ≡ true → Idle d o
+earmark-idle d o e = record { none-blocked = grind arith; unsettled = grind arith }
 
-pub fund-from : (h : Rulebook) (o : State) → may_start (Some Fund) o ≡ true
+pub fund-from : (o : State) → may_start (Some Fund) o ≡ true
     → (has_blocked securities o ≡ true) × (has_blocked cash o ≡ false) × (is_settled o ≡ false)
-fund-from h o e = (grind arith, grind arith, grind arith)
+fund-from o e = (grind arith, grind arith, grind arith)
 
-pub settle-from : (h : Rulebook) (d : Side) (o : State) → may_start (Some Settle) o ≡ true
+pub settle-from : (d : Side) (o : State) → may_start (Some Settle) o ≡ true
     → (has_blocked d o ≡ true) × (is_settled o ≡ false)
-settle-from h d o e = (grind arith, grind arith)
+settle-from d o e = (grind arith, grind arith)
 
-pub free-from : (h : Rulebook) (o : State) → may_start (Some Free) o ≡ true → is_settled o ≡ false
-free-from h o e = grind arith
+pub free-from : (o : State) → may_start (Some Free) o ≡ true → is_settled o ≡ false
+free-from o e = grind arith
 
 -- no kind but Enter starts from an unentered trade
-pub was-entered : (h : Rulebook) (k : Act) (o : State) → is_enter k ≡ false → may_start k o ≡ true → o ≡ Unentered → ⊥
-was-entered h k o e w z = grind arith
+pub was-entered : (k : Act) (o : State) → is_enter k ≡ false → may_start k o ≡ true → o ≡ Unentered → ⊥
+was-entered k o e w z = grind arith
 
 -- a kind byte is an Enter's where it is the code of Enter
 pub enter-code : (n : ℕ) → is_enter (kind_at n) ≡ eqb n (code_of Enter)

@@ -1,4 +1,4 @@
--- A list read from left to right leaves a trade as its last instructions say; and the steps of a trade.
+-- A list, read from left to right, leaves a trade as its last instructions say; a trade's steps.
 use Rattle.std.proofs.Common.{◌≡◌, ℕ, ◌<◌, ◌≤◌, true, false, eqb, ◌⊎◌, inl, inr, List, [], ◌∷◌, ◌++◌, Some, None, Ok, fold, sym, refl, ap, ◌∙◌, subst, ⊎_elim, arith}
 use Rattle.std.proofs.lemmas.Bool.{eqb-true, eq-eqb, ne_eqb, cases_Bool, cases_eq, cases_lt, cond-true, cond-false}
 use Rattle.instruction.specs.declared.Kind.{Kind}

@@ -25,7 +25,8 @@ terms_in xs = fold read_terms (λ t. no_terms) xs
 abbrev pub is_settled : State → Bool
 is_settled o = rank o == rank Settled
 
--- what a trade in a state and on terms adds to the sums of account a and item i: given, taken and blocked
+-- what a trade in a state and on terms adds to the sums of account a and item i: given, taken and
+-- blocked
 abbrev pub give_of : Side → ℕ → ℕ → State → Terms → ℕ
 give_of d a i s m = amount_if (is_settled s) (amount_if (is_place (giver d m) (asset d m) a i) (volume d m))
 

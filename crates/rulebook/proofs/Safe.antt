@@ -72,7 +72,7 @@ module _ (h : Rulebook) where
       })
   proper-step s x q k o e p =
       set-on (Proper h) s.state s.terms q x.trade o _ e
-      (was-entered h k o refl (right h k o (s.terms x.trade) s x tt p).from)
+      (was-entered k o refl (right h k o (s.terms x.trade) s x tt p).from)
 
   proper : {xs : List Instruction} {s : Standing} → Runs h xs s → (t : ℕ)
       → (s.state t ≡ Unentered) ⊎ Proper h (s.terms t)

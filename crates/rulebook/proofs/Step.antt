@@ -129,38 +129,38 @@ module _ (h : Rulebook) (s : Standing) (x : Instruction) (a i : ℕ) where
   fair-step None d o cr n c f e p = uncredited _ _ _ _ _ _ _ n c f
   fair-step (Some Enter) d o cr n c f e p =
       let r = right h (Some Enter) o m s x tt p in
-      uncredited _ _ _ _ _ _ _ n c (entering _ _ _ _ _ _ _ _ o _ (enter-idle h d o r.from) (entered-idle d) e f)
+      uncredited _ _ _ _ _ _ _ n c (entering _ _ _ _ _ _ _ _ o _ (enter-idle d o r.from) (entered-idle d) e f)
   fair-step (Some Earmark) securities o cr n c f e p =
       let r = right h (Some Earmark) o m s x tt p in
-      let w = earmark-idle h securities o r.from in
+      let w = earmark-idle securities o r.from in
       uncredited _ _ _ _ _ _ _ n c (blocks securities
       (s.book securities) s.state s.terms cr a i x.trade o Earmarked r.low e f w.unsettled refl w.none-blocked
       refl (ltb-false _ _ (cleared h m s x (Some Earmark) o p).1.1.1.1.0))
   fair-step (Some Earmark) cash o cr n c f e p =
       let r = right h (Some Earmark) o m s x tt p in
-      let w = earmark-idle h cash o r.from in
+      let w = earmark-idle cash o r.from in
       uncredited _ _ _ _ _ _ _ n c (blocks-same cash
       (s.book cash) s.state s.terms cr a i x.trade o Earmarked r.low e f false w.unsettled refl w.none-blocked
       refl)
   fair-step (Some Fund) securities o cr n c f e p =
       let r = right h (Some Fund) o m s x tt p in
-      let w = fund-from h o r.from in
+      let w = fund-from o r.from in
       uncredited _ _ _ _ _ _ _ n c (blocks-same securities
       (s.book securities) s.state s.terms cr a i x.trade o Funded r.low e f true w.2 refl w.0 refl)
   fair-step (Some Fund) cash o cr n c f e p =
       let r = right h (Some Fund) o m s x tt p in
-      let w = fund-from h o r.from in
+      let w = fund-from o r.from in
       uncredited _ _ _ _ _ _ _ n c (blocks cash
       (s.book cash) s.state s.terms cr a i x.trade o Funded r.low e f w.2 refl w.1 refl
       (ltb-false _ _ (cleared h m s x (Some Fund) o p).1.1.1.1.0))
   fair-step (Some Settle) d o cr n c f e p =
       let r = right h (Some Settle) o m s x tt p in
-      let w = settle-from h d o r.from in
+      let w = settle-from d o r.from in
       uncredited _ _ _ _ _ _ _ n c (moves d
       (s.book d) s.state s.terms cr a i x.trade o Settled r.low e f w.1 refl w.0 (settled-blocks-none d))
   fair-step (Some Free) d o cr n c f e p =
       let r = right h (Some Free) o m s x tt p in
-      let w = free-from h o r.from in
+      let w = free-from o r.from in
       uncredited _ _ _ _ _ _ _ n c
       (⊎_elim (λ (y : has_blocked d o ≡ true). subst
       (λ v. Fair d (apply (s.book d) (cond v (releasing (giver d m) (asset d m) (volume d m)) no_change))

@@ -10,6 +10,10 @@ use Rattle.rulebook.specs.Rules.{Rulebook, Standing, Runs, IsReachable, answer, 
 use Rattle.rulebook.specs.Tally.{credits, outflows, inflows, holds}
 use Rattle.rulebook.specs.Words.{IsOn, IsEnterOn, HasNo, IsLast, IsStateAfter, StatesTerms}
 
+-- The law stands apart from the rules that it guards. What a list of instructions says of a trade
+-- is defined in Words, what is summed for an account in Tally. Both use the types of the rules,
+-- and none of the functions by which the rules answer and change things.
+
 -- For account a and item i of side d's book, the amounts add up.
 pub record AddsUp (d : Side) (xs : List Instruction) (s : Standing) (a i : ℕ) : Type 0 where
   -- free and blocked, and what trades took away, are what was credited and what trades brought
@@ -31,19 +35,19 @@ pub record Determines (xs : List Instruction) (s : Standing) : Type 0 where
       (t : ℕ) (x : Instruction) → IsLast (IsEnterOn t) x xs → StatesTerms x (s.terms t)
   pub amounts : (d : Side) (a i : ℕ) → AddsUp d xs s a i
 
--- The law: whatever the rule book, a list of instructions that is accepted one after another, from the
--- empty standing on, determines the standing to which it leads.
+-- The law: whatever the rule book, a list of instructions that is accepted one after another, from
+-- the empty standing on, determines the standing to which it leads.
 abbrev pub LawOfTheLedger : Type 0
 LawOfTheLedger =
     (h : Rulebook) (xs : List Instruction) (s : Standing) → Runs h xs s → Determines xs s
 
--- Where the rules accept an instruction, each book accepts what they have it do: a Settle or a Free
--- never finds too little blocked.
+-- Where the rules accept an instruction, each book accepts what they have it do: a Settle or a
+-- Free never finds too little blocked.
 abbrev pub BooksAccept : Rulebook → Standing → Instruction → Type 0
 BooksAccept h s x =
     answer h s x ≡ Ok tt → (d : Side)
-    → ruling (h.book_kind d) (s.book d) (deed (kind_at x.kind) d (s.state x.trade) (s.terms x.trade) x)
-    ≡ Ok tt
+    → ruling (h.book_kind d) (s.book d)
+    (deed (kind_at x.kind) d (s.state x.trade) (s.terms x.trade) x) ≡ Ok tt
 
 -- A ledger that stood at `old` was given the instruction x, and stands at `new`.
 pub record FollowsRules (h : Rulebook) (old new : Standing) (x : Instruction) : Type 0 where

@@ -21,6 +21,9 @@ use Rattle.rulebook.specs.declared.Trade.{Trade}
 use Rattle.rulebook.specs.Table.{Act, is_among, state_after, may_start, next_state}
 use Rattle.rulebook.specs.Terms.{no_terms, terms_of, Side, securities, cash, giver, taker, asset, volume}
 
+-- The letters here: h a rule book, s a standing, x an instruction, k what it asks for, d a side,
+-- and of a trade t its number, o its state, m its terms.
+
 -- What is fixed before the first instruction.
 pub record Rulebook : Type 0 where
   -- the kinds of the register and of the cash book
@@ -43,6 +46,7 @@ abbrev pub states_with_blocked : Side → List State
 states_with_blocked securities = Earmarked ∷ Funded ∷ []
 states_with_blocked cash = Funded ∷ []
 
+-- a trade in state o has something blocked on this side
 abbrev pub has_blocked : Side → State → Bool
 has_blocked d o = is_among o (states_with_blocked d)
 
@@ -52,9 +56,9 @@ knows_kind h None = false
 knows_kind h (Some k) = true
 
 -- a field is filled that the kind has no use for
-abbrev pub stray : Act → Instruction → Bool
-stray (Some k) x = has_stray k x
-stray None x = false
+abbrev pub has_stray_field : Act → Instruction → Bool
+has_stray_field (Some k) x = has_stray k x
+has_stray_field None x = false
 
 -- the trade's number; its state, which refuses by the number n; then the further checks
 abbrev pub trade_checks : Act → ℕ → State → Instruction → List Check → List Check
@@ -71,8 +75,8 @@ module _ (h : Rulebook) where
   enter_checks x =
       nat_eq x.account x.counterparty refuses 33
       ∷ (nat_le ACCOUNTS x.account || nat_le ACCOUNTS x.counterparty) refuses 21
-      ∷ (nat_le (h.book_kind securities).items x.item || nat_le (h.book_kind cash).items x.currency)
-      refuses 22
+      ∷ (nat_le (h.book_kind securities).items x.item
+      || nat_le (h.book_kind cash).items x.currency) refuses 22
       ∷ (x.quantity == 0 || x.amount == 0) refuses 23 ∷ []
 
   -- the checks of a kind, where the trade is in state o on terms m
@@ -89,10 +93,10 @@ module _ (h : Rulebook) where
   checks_of (Some Free) o m s x = trade_checks (Some Free) 35 o x []
   checks_of None o m s x = []
 
-  -- all checks in their order: the kind is known, no field is filled for nothing, those of the kind
+  -- all checks in their order: the kind is known, no other field is filled, then those of the kind
   abbrev pub all_checks : Act → State → Terms → Standing → Instruction → List Check
   all_checks k o m s x =
-      not (knows_kind h k) refuses 32 ∷ stray k x refuses 31 ∷ checks_of k o m s x
+      not (knows_kind h k) refuses 32 ∷ has_stray_field k x refuses 31 ∷ checks_of k o m s x
 
   -- the answer to an instruction that is taken as one of this kind
   abbrev pub answer_as : Act → Standing → Instruction → Result (Unit {0}) Refusal
@@ -139,7 +143,7 @@ fault_answer h s x = with_trade x (answer h s x)
 abbrev pub updated : {X : Type 0} → (ℕ → X) → ℕ → X → ℕ → X
 updated f t v u = if t == u then v else f u
 
--- the trades' states once trade t is in a new state, if it is in one
+-- the states of all trades, with trade t in its new state, if it has one
 abbrev pub states_after : Option State → (ℕ → State) → ℕ → ℕ → State
 states_after None f t = f
 states_after (Some s) f t = updated f t s
@@ -148,7 +152,7 @@ abbrev pub is_enter : Act → Bool
 is_enter (Some Enter) = true
 is_enter k = false
 
--- the trades' terms after an instruction that is an Enter, or is not
+-- the terms of all trades after an instruction: an Enter (true) sets those of its trade
 abbrev pub terms_after : Bool → (ℕ → Terms) → Instruction → ℕ → Terms
 terms_after true f x = updated f x.trade (terms_of x)
 terms_after false f x = f
@@ -160,8 +164,8 @@ next_trade k x trade =
     (next_state k trade.state)
 
 -- What an instruction has one side's book do, where its trade is in state o on terms m. An Issue
--- credits the register, a Pay in the cash book. An Earmark blocks what the seller gives, a Fund what
--- the buyer pays. A Settle moves both. A Free releases whatever its trade has blocked.
+-- credits the register, a Pay in the cash book. An Earmark blocks what the seller gives, a Fund
+-- what the buyer pays. A Settle moves both. A Free releases whatever its trade has blocked.
 abbrev pub deed : Act → Side → State → Terms → Instruction → Deed
 deed (Some Issue) securities o m x = crediting x.account x.item x.quantity
 deed (Some Issue) cash o m x = no_change

@@ -1,4 +1,4 @@
--- The sums of the law: what was credited to an account, what trades took and brought, what they hold.
+-- The sums of the law: what an account was credited, what trades took and brought, what they hold.
 use Rattle.std.specs.Prelude.{ℕ, if◌then◌else◌, List, sum_by, ◌==◌}
 use Rattle.std.specs.List.{range_with_len}
 use Rattle.instruction.specs.declared.Instruction.{Instruction}
@@ -15,28 +15,29 @@ trades = range_with_len 0 TRADES
 
 -- Sums for one account and one item of a side's book. An item of the cash book is a currency.
 module _ (account item : ℕ) where
-  -- what counts of a quantity of item I on account A: all of it, if these are the two, else nothing
+  -- what counts of a quantity of item I on account A: all if these are the two, else nothing
   abbrev pub share : ℕ → ℕ → ℕ → ℕ
   share A I quantity = if A == account then (if I == item then quantity else 0) else 0
 
-  -- an instruction's credit: an Issue (kind 1) credits the register, a Pay in (kind 2) the cash book
+  -- what an instruction credits: an Issue (kind 1) the register, a Pay in (2) the cash book
   abbrev pub credit : Side → Instruction → ℕ
   credit securities x = if x.kind == 1 then share x.account x.item x.quantity else 0
   credit cash x = if x.kind == 2 then share x.account x.currency x.amount else 0
 
-  -- what left the account in a settled trade: for the seller the quantity, for the buyer the amount
+  -- what left the account in a settled trade: the seller's quantity, the buyer's amount
   abbrev pub outflow : Side → State → Terms → ℕ
   outflow securities Settled m = share m.seller m.item m.quantity
   outflow cash Settled m = share m.buyer m.currency m.amount
   outflow d o m = 0
 
-  -- what came in: for the buyer the quantity, for the seller the amount
+  -- what came into it: the quantity to the buyer, the amount to the seller
   abbrev pub inflow : Side → State → Terms → ℕ
   inflow securities Settled m = share m.buyer m.item m.quantity
   inflow cash Settled m = share m.seller m.currency m.amount
   inflow d o m = 0
 
-  -- what an open trade holds blocked: earmarked, the seller's quantity; funded, the buyer's amount too
+  -- what an open trade holds blocked: once earmarked the seller's quantity, once funded the
+  -- buyer's amount too
   abbrev pub hold : Side → State → Terms → ℕ
   hold securities Earmarked m = share m.seller m.item m.quantity
   hold securities Funded m = share m.seller m.item m.quantity

@@ -1,13 +1,13 @@
 //! The rule book: trades, their states, and the rules of settlement.
 //!
-//! The rules are those of Model 1 in the CPSS report of 1992, *Delivery Versus Payment in Securities
-//! Settlement Systems*: each trade settles by itself and in full, its securities against its cash. There
-//! is no netting, no lending and no undo.
+//! The rules are those of Model 1 in the CPSS report of 1992, *Delivery Versus Payment in
+//! Securities Settlement Systems*: each trade settles by itself and in full, its securities
+//! against its cash. There is no netting, no lending and no undo.
 //!
-//! The code holds a trade and the table of its states: `Trade::next_state` promises that table. The rules
-//! stand in `specs/`: `Rules` says what an instruction is answered and what it changes, and `Law`, in
-//! words of its own, what follows from that for every account and every trade. The crate `ledger` carries
-//! the rules out, and its `Ledger::instruct` promises the law.
+//! The code holds a trade and the table of its states: `Trade::next_state` promises that table.
+//! The rules stand in `specs/`: `Rules` says what an instruction is answered and what it changes,
+//! and `Law`, in words of its own, what follows from that for every account and every trade. The
+//! crate `ledger` carries the rules out, and its `Ledger::instruct` promises the law.
 #![tactic(auto)]
 
 ghost use Rattle.std.specs.Prelude.{◌≡◌, Some};
@@ -38,7 +38,8 @@ pub enum State {
     Freed,
 }
 
-/// What a trade exchanges: the seller gives a quantity of an item, the buyer an amount of a currency.
+/// What a trade exchanges: the seller gives a quantity of an item, the buyer an amount of a
+/// currency.
 #[derive(Clone, Copy, Debug, PartialEq, Eq)]
 pub struct Terms {
     /// The account that gives the securities and receives the cash.
@@ -71,7 +72,7 @@ impl From<&Instruction> for Terms {
     }
 }
 
-/// A trade, whatever its number.
+/// One trade. It does not hold its own number.
 #[derive(Clone, Copy, Debug, PartialEq, Eq)]
 pub struct Trade {
     /// How far it has come.
@@ -81,8 +82,8 @@ pub struct Trade {
 }
 
 impl Trade {
-    /// The state to which an instruction of this kind leads, or `None` where it may not start from the
-    /// trade's own state.
+    /// The state to which an instruction of this kind leads, or `None` where it may not start from
+    /// the trade's own state.
     pub fn next_state(&self, kind: Kind) -> Option<State>
         ensures { result ≡ next_state (Some kind) self.now.state }
     {
@@ -96,8 +97,8 @@ impl Trade {
         }
     }
 
-    /// The trade after the instruction `x` of this kind, or `None` where it may not start from the trade's
-    /// own state. An Enter sets the terms; any other kind keeps them.
+    /// The trade after the instruction `x` of this kind, or `None` where it may not start from the
+    /// trade's own state. An Enter sets the terms; any other kind keeps them.
     pub fn next_trade(&self, kind: Kind, x: &Instruction) -> Option<Trade>
         ensures { result ≡ next_trade (Some kind) x.now self.now }
     {

@@ -1,4 +1,4 @@
-//! Compares the proved engine, as a static library, with the twin on random lists of calls, over images that are random too.
+//! Compares the proved engine, as a static library, with the twin on random lists of calls over random images.
 //!
 //! `devices COUNT FIRST_SEED [THREADS]` compares on the lists of COUNT seeds in a row: every answer, the bytes that were read,
 //! and every byte of the image at the end. It exits with 1 if anything differs. `devices --answers COUNT FIRST_SEED` prints how
@@ -32,7 +32,7 @@ fn number(text: &str) -> u64 {
     text.parse().unwrap_or_else(|_| panic!("{text} is no number"))
 }
 
-/// What the lists of a seed came to.
+/// The outcome of the lists of a seed.
 #[derive(Default)]
 struct Outcome {
     lists: u64,
@@ -112,7 +112,7 @@ fn compare_seed(seed: u64, mut see: impl FnMut(&List, &[Answer])) -> Outcome {
     outcome
 }
 
-/// What a list comes to on one side.
+/// The outcome of a list on one side.
 struct Side {
     image: Vec<u8>,
     data: Vec<u8>,

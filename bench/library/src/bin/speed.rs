@@ -1,12 +1,12 @@
 //! Times the proved engine and the twin, in one process and on the same input, by turns.
 //!
-//! What a call takes is the difference of two runs, one with it and one without, each the best of several: so the copying of
-//! the image into a device and out again, which both sides do alike, is not counted.
+//! What a call takes is the difference of two runs, one with it and one without, each the best of several. So copying the image
+//! into a device and out again, which both sides do alike, does not count.
 
 use std::hint::black_box;
 use std::time::{Duration, Instant};
 
-use library::rows::{Setup, Trial, BATTERY, SIMULATED};
+use library::rows::{Setup, Timing, BATTERY, SIMULATED};
 use library::{original, twins};
 use twin::device::{Battery, Simulated};
 use twin::instruction::{Instruction, EARMARK};
@@ -18,10 +18,10 @@ const READ: u8 = 2;
 /// How many runs there are of each.
 const RUNS: usize = 9;
 
-/// How many instructions are given that are refused.
+/// How many refused instructions are given.
 const REFUSALS: u32 = 1_000_000;
 
-type Side = fn(&Setup, &mut [u8], &Trial) -> u64;
+type Side = fn(&Setup, &mut [u8], &Timing) -> u64;
 
 const SIDES: [Side; 2] = [original::time, twins::time];
 
@@ -35,7 +35,7 @@ fn main() {
     }
 }
 
-/// A device of a size that a journal of so many entries fills.
+/// A device with just the blocks of a journal of so many entries.
 struct Case {
     name: &'static str,
     setup: Setup,
@@ -48,23 +48,23 @@ impl Case {
     fn time(&self) {
         let mut image = self.image();
         println!("{}, {} entries, an image of {:.1} MB", self.name, self.entries, image.len() as f64 / 1e6);
-        let blank = Trial { entries: 0, ..self.fill() };
+        let blank = Timing { entries: 0, ..self.fill() };
         let times = f64::from(self.rounds) * f64::from(self.entries);
         self.show("instruct, accepted, ns", 1e9 / times, &mut image, &self.fill(), &blank);
         if self.entries == 1_000 {
             self.time_refused(&mut image);
         }
         self.make_journal(&mut image);
-        let open = Trial { what: OPEN, ..self.fill() };
+        let open = Timing { what: OPEN, ..self.fill() };
         let each = 1e3 / f64::from(self.rounds);
-        let opened = self.show("open, ms", each, &mut image, &open, &Trial { rounds: 0, ..open });
-        let read = Trial { what: READ, ..open };
-        let read = self.show("read of its blocks, summed, ms", each, &mut image, &read, &Trial { rounds: 0, ..read });
+        let opened = self.show("open, ms", each, &mut image, &open, &Timing { rounds: 0, ..open });
+        let read = Timing { what: READ, ..open };
+        let read = self.show("read of its blocks, summed, ms", each, &mut image, &read, &Timing { rounds: 0, ..read });
         let sum = sum(&image, self.rounds) * each;
         println!("  {:42} {sum:10.3}", "sum of the bytes of their rows, ms");
         println!("  {:42} {:10.2} {:10.2}", "open against that read", opened[0] / read[0], opened[1] / read[1]);
         println!("  {:42} {:10.2} {:10.2}", "open against that sum", opened[0] / sum, opened[1] / sum);
-        let nothing = Trial { rounds: 0, ..open };
+        let nothing = Timing { rounds: 0, ..open };
         println!(
             "  {:42} {:10.3} {:10.3}",
             "not counted: the image copied, ms",
@@ -81,8 +81,8 @@ impl Case {
         1 + 2 * self.entries
     }
 
-    fn fill(&self) -> Trial {
-        Trial {
+    fn fill(&self) -> Timing {
+        Timing {
             what: FILL,
             rounds: self.rounds,
             pairs: self.entries,
@@ -94,12 +94,12 @@ impl Case {
         }
     }
 
-    /// A full journal, which both sides find.
+    /// Makes a full journal in the image. Each side fills it, and has to find every entry again.
     fn make_journal(&self, image: &mut [u8]) {
-        let once = Trial { rounds: 1, ..self.fill() };
+        let once = Timing { rounds: 1, ..self.fill() };
         for side in SIDES {
             assert_eq!(side(&self.setup, image, &once), u64::from(self.entries));
-            assert_eq!(side(&self.setup, image, &Trial { what: OPEN, ..once }), u64::from(self.entries));
+            assert_eq!(side(&self.setup, image, &Timing { what: OPEN, ..once }), u64::from(self.entries));
         }
     }
 
@@ -110,20 +110,20 @@ impl Case {
             ("instruct, refused with 24, ns", Instruction::issue(0, 0, u64::MAX)),
         ];
         for (name, x) in refused {
-            let without = Trial { rounds: 1, refused: x, ..self.fill() };
-            let with = Trial { refusals: REFUSALS, ..without };
+            let without = Timing { rounds: 1, refused: x, ..self.fill() };
+            let with = Timing { refusals: REFUSALS, ..without };
             self.show(name, 1e9 / f64::from(REFUSALS), image, &with, &without);
         }
     }
 
-    /// Times a trial without another one, on both sides, and prints that in a unit.
-    fn show(&self, name: &str, unit: f64, image: &mut [u8], with: &Trial, without: &Trial) -> [f64; 2] {
+    /// Prints, for both sides and in a unit, how much longer one of the two takes than the other.
+    fn show(&self, name: &str, unit: f64, image: &mut [u8], with: &Timing, without: &Timing) -> [f64; 2] {
         let mut best = [[Duration::MAX; 2]; 2];
         for _ in 0..RUNS {
             for (side, best) in SIDES.iter().zip(&mut best) {
-                for (trial, best) in [with, without].iter().zip(best) {
+                for (timing, best) in [with, without].iter().zip(best) {
                     let start = Instant::now();
-                    black_box(side(&self.setup, image, trial));
+                    black_box(side(&self.setup, image, timing));
                     *best = start.elapsed().min(*best);
                 }
             }
@@ -133,7 +133,7 @@ impl Case {
         [proved, twin]
     }
 
-    fn copy(&self, side: usize, nothing: &Trial) -> f64 {
+    fn copy(&self, side: usize, nothing: &Timing) -> f64 {
         let mut image = self.image();
         let mut best = Duration::MAX;
         for _ in 0..RUNS {
@@ -145,7 +145,7 @@ impl Case {
     }
 }
 
-/// The seconds that so many sums of all bytes take.
+/// The seconds that it takes to sum all bytes so many times.
 fn sum(image: &[u8], rounds: u32) -> f64 {
     let mut best = Duration::MAX;
     for _ in 0..RUNS {

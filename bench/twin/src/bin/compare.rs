@@ -1,11 +1,11 @@
-//! Compares the original's program with the twin on random scripts.
+//! Compares the proved program with the twin on random scripts.
 //!
-//! `compare EXAM_PATH COUNT FIRST_SEED [THREADS]` compares on the scripts of COUNT seeds in a row, and exits with 1 if any
+//! `compare PROGRAM COUNT FIRST_SEED [THREADS]` compares on the scripts of COUNT seeds in a row, and exits with 1 if any
 //! key differs. `compare --script SEED` prints the script of a seed, and `compare --answers COUNT FIRST_SEED` how often
 //! the twin gives each answer on the scripts of those seeds.
 //!
-//! What is worth writing next depends on how a script went so far, and the generator asks the twin for that. So a seed has
-//! one script as long as the twin stays as it is.
+//! The generator asks the twin how a script went so far, to decide what to write next. So a seed gives the same script as long as
+//! the twin stays the same.
 
 use std::collections::BTreeMap;
 use std::io::{self, Write};
@@ -93,7 +93,7 @@ fn compare(program: &str, count: u64, first: u64, threads: u64) -> ExitCode {
     ExitCode::from(u8::from(differing > 0))
 }
 
-/// Where the original's key of a script differs from the twin's, if it does.
+/// Where the proved program's key of a script differs from the twin's, if it does.
 fn difference(program: &str, script: &[u8]) -> Option<String> {
     let twins = exam::key(script).into_bytes();
     let original = match run(program, script) {
@@ -121,7 +121,7 @@ fn difference(program: &str, script: &[u8]) -> Option<String> {
     ))
 }
 
-/// What the original prints for a script.
+/// What the proved program prints for a script.
 fn run(program: &str, script: &[u8]) -> Result<Vec<u8>, String> {
     let mut child = Command::new(program)
         .stdin(Stdio::piped())
@@ -131,7 +131,7 @@ fn run(program: &str, script: &[u8]) -> Result<Vec<u8>, String> {
         .map_err(|error| format!("{program} does not start: {error}"))?;
     let mut input = child.stdin.take().expect("the input is a pipe");
     let output = std::thread::scope(|scope| {
-        // A program that has seen too long an input may end before it has read it all, so a failure is no matter.
+        // A program may end before it has read an input that is too long, so a failed write does not matter.
         scope.spawn(move || input.write_all(script));
         child.wait_with_output()
     })
@@ -200,7 +200,7 @@ const NOISE: Style =
 const LONG: Style =
     Style { stock: 10, enter: 10, step: 20, question: 40, cut: 3, ceiling: 1, boundary: 5, malformed: 8, noise: 3 };
 
-/// Numbers at which something changes, small ones, and such as are too wide for any field.
+/// Numbers at which something changes, small ones, and some that are too wide for every field.
 const BOUNDARIES: [&str; 32] = [
     "0",
     "1",
@@ -236,18 +236,18 @@ const BOUNDARIES: [&str; 32] = [
     "100000000000000000000",
 ];
 
-/// A script in the making, and the twin's examination of it so far, which tells what is worth writing next.
+/// A script in the making. The twin's examination of it so far tells what to write next.
 struct Writer {
     rng: Rng,
     exam: Exam,
     script: Vec<u8>,
-    /// The number of standing entries when last known.
+    /// The number of standing entries, as last known.
     entries: u32,
-    /// Whether the highest accounts, items and trades are used, and not the lowest.
+    /// Whether to use the highest accounts, items and trades, instead of the lowest.
     high: bool,
     /// Whether the last instruction was answered 42, or cut.
     down: bool,
-    /// The credits of which the trades that were written are in need.
+    /// The credits that the trades written so far need.
     needs: BTreeMap<u32, [String; 2]>,
 }
 
@@ -270,7 +270,7 @@ impl Writer {
         self.push(&line);
     }
 
-    /// A script of just under, just at, or over the most bytes that one has.
+    /// A script just below, at, or above the largest size.
     fn write_long(&mut self) {
         let target = match self.rng.below(8) {
             0 => 65_535,
@@ -305,7 +305,7 @@ impl Writer {
     }
 
     fn line(&mut self, style: &Style) -> Vec<u8> {
-        // While nothing is answered but 41 or 42, a cut is the only line that gets on.
+        // While every answer is 41 or 42, only a cut changes anything.
         let stuck = self.exam.engine().opening().is_err() || self.down;
         if stuck && style.cut > 0 && self.rng.chance(30) {
             return self.cut();
@@ -324,7 +324,7 @@ impl Writer {
         }
     }
 
-    /// One of few numbers as a rule, and now and then any below the limit, or the limit.
+    /// Mostly one of a few numbers; sometimes any number below the limit, or the limit itself.
     fn among(&mut self, few: u64, limit: u64) -> u64 {
         let number = match self.rng.below(60) {
             0 => return limit,
@@ -388,7 +388,7 @@ impl Writer {
         format!("T {seller} {buyer} {item} {currency} {trade} {quantity} {amount}").into_bytes()
     }
 
-    /// A trade in one of these states where there is one, and now and then another.
+    /// A trade in one of these states, if there is one; sometimes another.
     fn trade(&mut self, states: &[TradeState]) -> u32 {
         if self.rng.chance(90) {
             let engine = self.exam.engine();
@@ -434,7 +434,7 @@ impl Writer {
     }
 
     fn cut(&mut self) -> Vec<u8> {
-        // What an opening takes that finds all standing entries.
+        // The calls of an opening that finds all standing entries.
         let opening = match self.entries {
             63 => 127,
             entries => 2 + 2 * u64::from(entries),
@@ -442,7 +442,7 @@ impl Writer {
         let calls = match self.rng.below(20) {
             0..=4 => self.rng.below(41),
             5..=9 => opening + self.rng.below(13),
-            // Room for some instructions, and for the next one up to its last sync.
+            // Enough for some instructions, and for the next one up to its last sync.
             10..=12 => opening + 4 * self.rng.below(4) + 3,
             13 | 14 => (opening + 1).saturating_sub(self.rng.below(5)),
             15..=17 => self.rng.between(128, 5000),
@@ -469,7 +469,7 @@ impl Writer {
         line.into_bytes()
     }
 
-    /// A credit that brings an item just under, just to, or just over the ceiling.
+    /// A credit that brings an item to just below, exactly to, or just above the ceiling.
     fn ceiling(&mut self) -> Vec<u8> {
         let securities = self.rng.chance(50);
         let item = self.rng.below(3) as u16;
@@ -520,7 +520,7 @@ impl Writer {
         line.into_bytes()
     }
 
-    /// A line of a listed form, with something wrong as a rule.
+    /// A line of a listed form, mostly with something wrong.
     fn malformed(&mut self) -> Vec<u8> {
         let mut line = match self.rng.below(6) {
             0 => self.stock(),
@@ -579,13 +579,13 @@ impl Writer {
             }
             14 => line.truncate(place),
             15 => {
-                // A field less.
+                // One field too few.
                 let end = line.iter().rposition(|byte| *byte == b' ').unwrap_or(0);
                 line.truncate(end);
             }
             16 => line.extend(format!(" {}", self.rng.below(10)).bytes()),
             17 => {
-                // Digits more.
+                // More digits.
                 let digits = self.rng.between(1, 25);
                 for _ in 0..digits {
                     line.push(self.rng.between(u64::from(b'0'), u64::from(b'9')) as u8);
@@ -598,7 +598,7 @@ impl Writer {
                 line.extend(self.rng.pick(&BOUNDARIES).bytes());
             }
             19 => {
-                // Another letter of the list, so a wrong number of fields as a rule.
+                // Another letter of the list, mostly with the wrong number of fields for it.
                 if let Some(letter) = line.first_mut() {
                     *letter = self.rng.pick(b"IDTELSFQKC");
                 }

@@ -1,5 +1,5 @@
-//! Times two programs on scripts of about 65,536 bytes, by turns: `times PROGRAM TWIN [ROUNDS]`. Of each it prints the best
-//! round in milliseconds, the start of the program included. The keys must be the same bytes.
+//! Times two programs by turns on scripts of about 65,536 bytes: `times PROGRAM TWIN [ROUNDS]`. It prints the best round of each in
+//! milliseconds, the start of the program included. Both keys must be the same bytes.
 
 use std::io::Write;
 use std::process::{Command, ExitCode, Stdio};
@@ -35,7 +35,7 @@ fn main() -> ExitCode {
     ExitCode::SUCCESS
 }
 
-/// Scripts of the kinds of line that differ most in what they cost.
+/// Scripts of the kinds of line whose costs differ most.
 fn scripts() -> [(&'static str, Vec<u8>); 5] {
     let issue = |n: usize| format!("I {} {} {}\n", n % 64, n % 16, n % 9 + 1);
     let day = |n: usize| match n {
@@ -59,7 +59,7 @@ fn scripts() -> [(&'static str, Vec<u8>); 5] {
     ]
 }
 
-/// As many lines as have room.
+/// As many lines as fit into a script.
 fn filled(line: impl Fn(usize) -> String) -> Vec<u8> {
     let mut script = Vec::new();
     for n in 0.. {

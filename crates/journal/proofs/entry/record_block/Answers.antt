@@ -10,4 +10,6 @@ returns-clause-value c =
     rw (n, b) refl
 
 pub returns-clause-places : goal.returns-clause-places
-returns-clause-places c = subst (λ bs. RecordPlaces c.args.entry c.args.x.now bs) (sym (returns-clause-value c)) (record-placed c.args.entry c.args.x.now (search rules))
+returns-clause-places c =
+    subst (λ bs. RecordPlaces c.args.entry c.args.x.now bs) (sym (returns-clause-value c))
+    (record-placed c.args.entry c.args.x.now (search rules))

@@ -9,6 +9,6 @@ use Rattle.lots.proofs.LotsBook.block.Goals as goal
 
 pub returns : goal.returns
 returns c =
-    let e = asked-part (λ h. h.free) lots_kind (holding_of (meaning c.args.self.now)) c.args.account c.args.item c.in_ok-held.held c.in_ok-held.ensures in
-    let d = block-done c.args.self.now c.args.account c.args.item c.args.quantity c.in_ok-held.held.free OverFree c.in_ok-covers.ensures e in
+    let e = asked-part (λ h. h.free) lots_kind (holding_of (meaning c.args.self.now)) c.args.account c.args.item c.in_ok-holding.holding c.in_ok-holding.ensures in
+    let d = block-done c.args.self.now c.args.account c.args.item c.args.quantity c.in_ok-holding.holding.free OverFree c.in_ok-covers.ensures e in
     search rules

@@ -12,10 +12,10 @@ pub invariant_of-self : goal.invariant_of-self
 invariant_of-self c =
     let book = c.args.self.now in
     let fits = credit-fits lots_kind (meaning book) c.args.account c.args.item c.args.quantity c.in_ok-credit_ruling.ensures in
-    let there : c.args.item < length book.lots = omega (arith, book.full) in
+    let there : c.args.item < length book.lots = omega (arith, book.whole) in
     record {
-      full = length-set book.lots c.args.item _ ∙ book.full;
-      owned = owned-set book.lots c.args.item _ there (lt-ltb c.args.account 64 fits.0) book.owned;
+      whole = length-set book.lots c.args.item _ ∙ book.whole;
+      owners = owned-set book.lots c.args.item _ there (lt-ltb c.args.account 64 fits.0) book.owners;
     }
 
 pub returns : goal.returns

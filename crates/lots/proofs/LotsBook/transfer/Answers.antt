@@ -9,6 +9,6 @@ use Rattle.lots.proofs.LotsBook.transfer.Goals as goal
 
 pub returns : goal.returns
 returns c =
-    let e = asked-part (λ h. h.blocked) lots_kind (holding_of (meaning c.args.self.now)) c.args.from c.args.item c.in_ok-held.held c.in_ok-held.ensures in
-    let d = move-done c.args.self.now c.args.from c.args.item c.args.quantity c.in_ok-held.held.blocked OverBlocked c.in_ok-covers.ensures e c.args.to c.if-to-ge-ACCOUNTS.false in
+    let e = asked-part (λ h. h.blocked) lots_kind (holding_of (meaning c.args.self.now)) c.args.from c.args.item c.in_ok-holding.holding c.in_ok-holding.ensures in
+    let d = move-done c.args.self.now c.args.from c.args.item c.args.quantity c.in_ok-holding.holding.blocked OverBlocked c.in_ok-covers.ensures e c.args.to c.if-to-ge-ACCOUNTS.false in
     search rules

@@ -1,13 +1,13 @@
 use Rattle.std.proofs.Common.{◌≡◌, [], ◌∷◌, ◌++◌, get_or, vec_items, sym, ap, subst, rules}
 use Rattle.ledger.specs.View.{rulebook_of}
-use Rattle.depository.specs.declared.calls.Call.TheVariants.{Instruct, Restart, Ask}
-use Rattle.depository.specs.Orders.{Order, instruct_order, restart_order, ask_order, order}
+use Rattle.depository.specs.declared.calls.Call.TheVariants.{Instruct, Close, Restart, Open, Ask}
+use Rattle.depository.specs.Orders.{Order, instruct_order, close_order, restart_order, open_order, ask_order, order}
 use Rattle.depository.specs.Moments.{moment_of}
-use Rattle.depository.specs.Handling.{device_of}
+use Rattle.depository.specs.DeviceUse.{device_of}
 use Rattle.depository.specs.Paths.{Path, no_calls}
-use Rattle.depository.proofs.Runs.{unasked, fit-of, next-call, next-order, asked-only, all-calls, means-it}
+use Rattle.depository.proofs.Runs.{unasked, fit-of, next-order, asked-only, all-calls, means-it}
 use Rattle.depository.proofs.condition.Depository.run.Goals as goal
-use Rattle.depository.proofs.condition.Depository.run.Goals.{in-Instruct, in-Restart, in-Ask, in_default}
+use Rattle.depository.proofs.condition.Depository.run.Goals.{in-Instruct, in-Close, in-Restart, in-Open, in-Ask}
 
 pub loop-call-init : goal.loop-call-init
 loop-call-init g c =
@@ -60,13 +60,23 @@ loop-call-preserved g c =
             search rules,
             rw w.depository-is (next-order makes means h most unasked calls n o w.ask-reply.result c.loop-call-test.true i.3 (ap order next) (λ x same. absurd cc) w.ask-reply.ensures (asked-only makes means h most _ _ _) (means-it before) answered),
           )
-      | in_default w ↦
-          let e = w.give-next.ensures in
-          let answered : new ≡ old ++ (w.give-next.result.1 ∷ []) = rw w.reply-is at p.items in (
+      | in-Close w ↦
+          let e = w.close-shut.ensures in
+          let next : get_or calls n unasked ≡ Close = assumption (w.in-Close.is) in
+          let answered : new ≡ old ++ (w.close-shut.result.1 ∷ []) = rw w.reply-is at p.items in (
             search rules,
             search rules,
             search rules,
-            rw w.depository-is (next-call makes means h most unasked calls n w.give-next.result.1 c.loop-call-test.true i.3 e.fit e.does e.device (means-it w.give-next.result.0.condition) answered),
+            rw w.depository-is (next-order makes means h most unasked calls n close_order w.close-shut.result.1 c.loop-call-test.true i.3 (ap order next) (λ x same. absurd cc) e.does e.device (means-it w.close-shut.result.0.condition) answered),
+          )
+      | in-Open w ↦
+          let e = w.open-running.ensures in
+          let next : get_or calls n unasked ≡ Open = assumption (w.in-Open.is) in
+          let answered : new ≡ old ++ (w.open-running.result.1 ∷ []) = rw w.reply-is at p.items in (
+            search rules,
+            search rules,
+            search rules,
+            rw w.depository-is (next-order makes means h most unasked calls n open_order w.open-running.result.1 c.loop-call-test.true i.3 (ap order next) (λ x same. absurd cc) e.does e.device (means-it w.open-running.result.0.condition) answered),
           )
     ]
 

@@ -2,7 +2,7 @@ use Rattle.std.proofs.Common.{◌≡◌, ◌≤◌, length, map, take, vec_items
 use Rattle.ledger.specs.View.{rulebook_of}
 use Rattle.depository.specs.Orders.{order}
 use Rattle.depository.specs.Moments.{moment_of}
-use Rattle.depository.specs.Handling.{device_of}
+use Rattle.depository.specs.DeviceUse.{device_of}
 use Rattle.depository.specs.Paths.{Path}
 use Rattle.depository.proofs.condition.Depository.run.Given as goal
 

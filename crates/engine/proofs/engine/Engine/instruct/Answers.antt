@@ -33,7 +33,10 @@ returns-in-Err-clause-trace g c =
     let x = c.args.x.now in
     let v = view g.D.Device.medium c.args.self.now in
     let passed : check_answer h x v ≡ Ok tt = search rules in
-    subst (λ a. IsTrace g.D.Device.makes (if_ok a (write_entry_calls v.entry_count x v.medium.calls_left) []) c.args.self.now.device c.write_entry.new.device) (sym passed) c.in-Err.ensures.trace
+    subst (λ a. IsTrace g.D.Device.makes
+    (if_ok a
+    (write_entry_calls v.entry_count x v.medium.calls_left) []) c.args.self.now.device c.write_entry.new.device)
+    (sym passed) c.in-Err.ensures.trace
 
 pub returns-in_err-check-clause-cut : goal.returns-in_err-check-clause-cut
 returns-in_err-check-clause-cut g c =
@@ -49,10 +52,12 @@ returns-in-Err-clause-cut g c =
     let v = view g.D.Device.medium c.args.self.now in
     let passed : check_answer h x v ≡ Ok tt = search rules in
     let answered = c.in-Err.ensures.answer in
-    cut-down h x v _ (let-pass (sym passed)) (sym answered) (ap (λ f. Err f) (c.fault_about.ensures.value ∙ ap (fault_about x) c.in_entry.ensures)) refl
+    cut-down h x v _ (let-pass (sym passed)) (sym answered)
+    (ap (λ f. Err f) (c.fault_about.ensures.value ∙ ap (fault_about x) c.in_entry.ensures)) refl
 
 pub returns-clause-places : goal.returns-clause-places
 returns-clause-places g c done =
     let v = view g.D.Device.medium c.args.self.now in
     let is : c.write_entry.result ≡ Ok tt = search rules in
-    entry-placed v.entry_count c.args.x.now v.medium _ (search rules) (enter-done v.medium v.entry_count (sym c.write_entry.ensures.answer ∙ is)) c.write_entry.ensures.after
+    entry-placed v.entry_count c.args.x.now v.medium _ (search rules)
+    (enter-done v.medium v.entry_count (sym c.write_entry.ensures.answer ∙ is)) c.write_entry.ensures.after

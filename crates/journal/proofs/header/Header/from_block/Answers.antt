@@ -16,5 +16,6 @@ pub returns : goal.returns
 returns c =
     let bs = c.args.block.now in
     let z : true ≡ all_zero (drop 8 bs) = c.if-not-all_zero.ensures ∙ ap all_zero (take_rest bs 8) in
-    let e = header-told bs c.from_little_endian-pairs.result (search rules) (search rules) (search rules) (search rules) (search rules) z in
+    let e = header-told bs c.from_little_endian-pairs.result (search rules) (search rules) (search rules)
+    (search rules) (search rules) z in
     record { value = e; exact = reads-header bs _ c.told-block c.fits-block e }

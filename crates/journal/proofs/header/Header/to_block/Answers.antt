@@ -8,4 +8,5 @@ returns-clause-value c = search rules
 
 pub returns-clause-places : goal.returns-clause-places
 returns-clause-places c =
-    subst (λ bs. HeaderPlaces c.args.self.register c.args.self.cash c.args.self.pairs bs) (sym (returns-clause-value c)) (header-placed c.args.self (search rules))
+    subst (λ bs. HeaderPlaces c.args.self.register c.args.self.cash c.args.self.pairs bs)
+    (sym (returns-clause-value c)) (header-placed c.args.self (search rules))

@@ -18,8 +18,8 @@ use Rattle.engine.specs.Lasting.{blocks_for_books}
 use Rattle.engine.specs.Instructing.{check_answer, within_entry, Accepts, CutsOff, Leaves, TakesInstruction}
 use Rattle.engine.proofs.Instructs.{LetPass, let-pass}
 use Rattle.engine.proofs.Cuts.{is13, about-refusal-as, checked-calm, enter-cut, enter-done}
-use Rattle.depository.specs.Tally.{Tally, fed_instruction}
-use Rattle.depository.proofs.Kept.{InEngine, KeptBy}
+use Rattle.depository.specs.CallTally.{Tally, after_instruct}
+use Rattle.depository.proofs.KeepsTally.{InEngine, KeepsTallyBy}
 
 module _ (h : Rulebook) (pairs : ℕ) (few : pairs ≤ 32767) (t : Tally) (x : Instruction) (fit : Fit x) (v v' : View) (l : Option Contents) where
   abbrev L : JournalBlocks Instruction
@@ -33,13 +33,13 @@ module _ (h : Rulebook) (pairs : ℕ) (few : pairs ≤ 32767) (t : Tally) (x : I
   read-back : length t.list < pairs → read_in (record_in (length t.list) (record_bytes (length t.list) x)) ≡ Some x
   read-back lt = ap read_in (record-read (length t.list) x (omega arith) fit)
 
-  idle-journal : t.hand ≡ None → InEngine h pairs t v → Journal L v.medium t.list None
+  idle-journal : t.in_hand ≡ None → InEngine h pairs t v → Journal L v.medium t.list None
   idle-journal n k = subst (λ hand. Journal L v.medium t.list hand) n k.device.journal
 
-  none-next : (s : Standing) → t.hand ≡ None → (y : Instruction) → t.hand ≡ Some y → answer h s y ≡ Ok tt
+  none-next : (s : Standing) → t.in_hand ≡ None → (y : Instruction) → t.in_hand ≡ Some y → answer h s y ≡ Ok tt
   none-next s n y e = absurd cc
 
-  added : LetPass h x v → t.hand ≡ None → InEngine h pairs t v → 3 < v.medium.calls_left → Accepts x v v' → InEngine h pairs (record { list = t.list ++ (x ∷ []); hand = t.hand }) v'
+  added : LetPass h x v → t.in_hand ≡ None → InEngine h pairs t v → 3 < v.medium.calls_left → Accepts x v v' → InEngine h pairs (record { list = t.list ++ (x ∷ []); in_hand = t.in_hand }) v'
   added p n k l a =
       let lt : length t.list < pairs = omega (arith, p.room, k.entry_count, k.room) in
       let run = more x k.runs p.accepted in
@@ -55,7 +55,7 @@ module _ (h : Rulebook) (pairs : ℕ) (few : pairs ≤ 32767) (t : Tally) (x : I
         entry_count = a.entry_count ∙ ap (λ n. n + 1) k.entry_count ∙ sym (length_push t.list x);
       }
 
-  in-hand : LetPass h x v → t.hand ≡ None → InEngine h pairs t v → v.medium.calls_left < 4 → CutsOff x v v' → InEngine h pairs (record { list = t.list; hand = Some x }) v'
+  in-hand : LetPass h x v → t.in_hand ≡ None → InEngine h pairs t v → v.medium.calls_left < 4 → CutsOff x v v' → InEngine h pairs (record { list = t.list; in_hand = Some x }) v'
   in-hand p n k l a =
       let lt : length t.list < pairs = omega (arith, p.room, k.entry_count, k.room) in
       record {
@@ -70,27 +70,27 @@ module _ (h : Rulebook) (pairs : ℕ) (few : pairs ≤ 32767) (t : Tally) (x : I
       }
 
   -- an engine that lets an instruction pass is open
-  idle : LetPass h x v → KeptBy h pairs t v l v.mode → (t.hand ≡ None) × InEngine h pairs t v
-  idle p k = subst (λ m. KeptBy h pairs t v l m) p.mode k
+  idle : LetPass h x v → KeepsTallyBy h pairs t v l v.mode → (t.in_hand ≡ None) × InEngine h pairs t v
+  idle p k = subst (λ m. KeepsTallyBy h pairs t v l m) p.mode k
 
   leads : (c w r : Answer) → check_answer h x v ≡ c → write_entry_answer v.medium v.entry_count ≡ w → Leaves c w x v v' → r ≡ and_then c (within_entry x v.entry_count w)
-      → KeptBy h pairs t v l v.mode → KeptBy h pairs (fed_instruction t x r) v' l v'.mode
+      → KeepsTallyBy h pairs t v l v.mode → KeepsTallyBy h pairs (after_instruct t x r) v' l v'.mode
   leads (Err f) w r ec ew same er k =
-      let still : fed_instruction t x r ≡ t = ap (fed_instruction t x) er ∙ ap (λ b. cond b (record { list = t.list; hand = Some x }) t) (checked-calm h x v f ec) in
-      subst (λ u. KeptBy h pairs u v' l v'.mode) (sym still) (subst (λ u. KeptBy h pairs t u l u.mode) (sym same) k)
+      let still : after_instruct t x r ≡ t = ap (after_instruct t x) er ∙ ap (λ b. cond b (record { list = t.list; in_hand = Some x }) t) (checked-calm h x v f ec) in
+      subst (λ u. KeepsTallyBy h pairs u v' l v'.mode) (sym still) (subst (λ u. KeepsTallyBy h pairs t u l u.mode) (sym same) k)
   leads (Ok u) (Ok w) r ec ew a er k =
       let p = let-pass (sym ec) in
       let i = idle p k in
-      let now : KeptBy h pairs (fed_instruction t x (Ok tt)) v' l Open = (i.0, added p i.0 i.1 (enter-done v.medium v.entry_count ew) a) in
-      subst (λ a. KeptBy h pairs (fed_instruction t x a) v' l v'.mode) (sym er) (subst (λ m. KeptBy h pairs (fed_instruction t x (Ok tt)) v' l m) (sym a.mode) now)
+      let now : KeepsTallyBy h pairs (after_instruct t x (Ok tt)) v' l Open = (i.0, added p i.0 i.1 (enter-done v.medium v.entry_count ew) a) in
+      subst (λ a. KeepsTallyBy h pairs (after_instruct t x a) v' l v'.mode) (sym er) (subst (λ m. KeepsTallyBy h pairs (after_instruct t x (Ok tt)) v' l m) (sym a.mode) now)
   leads (Ok u) (Err f) r ec ew a er k =
       let p = let-pass (sym ec) in
       let i = idle p k in
       let cut = enter-cut v.medium v.entry_count f ew in
       let is13-still : is13 (fault_about x (in_entry v.entry_count f)).refusal ≡ true = ap is13 (about-refusal-as (names_trade (kind_at x.kind)) (in_entry v.entry_count f) x.trade) ∙ cut.0 in
-      let held : fed_instruction t x r ≡ record { list = t.list; hand = Some x } = ap (fed_instruction t x) er ∙ ap (λ b. cond b (record { list = t.list; hand = Some x }) t) is13-still in
-      let now : KeptBy h pairs (record { list = t.list; hand = Some x }) v' l (Down x) = (refl, in-hand p i.0 i.1 cut.1 a) in
-      subst (λ u. KeptBy h pairs u v' l v'.mode) (sym held) (subst (λ m. KeptBy h pairs (record { list = t.list; hand = Some x }) v' l m) (sym a.mode) now)
+      let held : after_instruct t x r ≡ record { list = t.list; in_hand = Some x } = ap (after_instruct t x) er ∙ ap (λ b. cond b (record { list = t.list; in_hand = Some x }) t) is13-still in
+      let now : KeepsTallyBy h pairs (record { list = t.list; in_hand = Some x }) v' l (Down x) = (refl, in-hand p i.0 i.1 cut.1 a) in
+      subst (λ u. KeepsTallyBy h pairs u v' l v'.mode) (sym held) (subst (λ m. KeepsTallyBy h pairs (record { list = t.list; in_hand = Some x }) v' l m) (sym a.mode) now)
 
-  pub instructed : (r : Answer) → TakesInstruction h x v v' r → KeptBy h pairs t v l v.mode → KeptBy h pairs (fed_instruction t x r) v' l v'.mode
+  pub instructed : (r : Answer) → TakesInstruction h x v v' r → KeepsTallyBy h pairs t v l v.mode → KeepsTallyBy h pairs (after_instruct t x r) v' l v'.mode
   instructed r e k = leads (check_answer h x v) (write_entry_answer v.medium v.entry_count) r refl refl e.after e.answer k

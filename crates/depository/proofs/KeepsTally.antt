@@ -10,12 +10,12 @@ use Rattle.engine.specs.View.{View}
 use Rattle.engine.specs.Lasting.{blocks_for_books}
 use Rattle.engine.proofs.Keeping.{Lawful}
 use Rattle.depository.specs.Moments.{Phase, running, shut, Moment}
-use Rattle.depository.specs.Tally.{Tally}
+use Rattle.depository.specs.CallTally.{Tally}
 
 -- the slip that is owed has the tally's number of entries and what is in hand; where none is owed, nothing is in hand
 abbrev pub Matches : Option Contents → Tally → Type 0
-Matches None t = t.hand ≡ None
-Matches (Some c) t = (c.entries ≡ length t.list) × (c.hand ≡ t.hand)
+Matches None t = t.in_hand ≡ None
+Matches (Some c) t = (c.entries ≡ length t.list) × (c.hand ≡ t.in_hand)
 
 -- a number of pairs that a journal may have
 pub record Paired (pairs : ℕ) : Type 0 where
@@ -25,8 +25,8 @@ pub record Paired (pairs : ℕ) : Type 0 where
 module _ (h : Rulebook) (pairs : ℕ) (t : Tally) where
   -- the device keeps the tally
   pub record OnDevice (m : Medium) : Type 0 where
-    pub journal : Journal (blocks_for_books h pairs) m t.list t.hand
-    pub lawful : Lawful h t.list t.hand
+    pub journal : Journal (blocks_for_books h pairs) m t.list t.in_hand
+    pub lawful : Lawful h t.list t.in_hand
     pub size : 1 + 2 * pairs ≤ m.size
 
   -- so do the books and trades of the engine
@@ -36,14 +36,14 @@ module _ (h : Rulebook) (pairs : ℕ) (t : Tally) where
     pub room : v.pairs ≡ pairs
     pub entry_count : v.entry_count ≡ length t.list
 
-  abbrev pub KeptBy : View → Option Contents → Mode → Type 0
-  KeptBy v l Open = (t.hand ≡ None) × InEngine v
-  KeptBy v l (Down x) = (t.hand ≡ Some x) × InEngine v
-  KeptBy v l (Refused f) = OnDevice v.medium × Matches l t
+  abbrev pub KeepsTallyBy : View → Option Contents → Mode → Type 0
+  KeepsTallyBy v l Open = (t.in_hand ≡ None) × InEngine v
+  KeepsTallyBy v l (Down x) = (t.in_hand ≡ Some x) × InEngine v
+  KeepsTallyBy v l (Refused f) = OnDevice v.medium × Matches l t
 
-  abbrev pub KeptIn : Phase → Option Contents → Type 0
-  KeptIn (running v) l = KeptBy v l v.mode
-  KeptIn (shut m books) l = OnDevice m × Matches l t
+  abbrev pub KeepsTallyIn : Phase → Option Contents → Type 0
+  KeepsTallyIn (running v) l = KeepsTallyBy v l v.mode
+  KeepsTallyIn (shut m books) l = OnDevice m × Matches l t
 
-  abbrev pub Kept : Moment → Type 0
-  Kept a = KeptIn a.phase a.owed
+  abbrev pub KeepsTally : Moment → Type 0
+  KeepsTally a = KeepsTallyIn a.phase a.owed
