@@ -9,6 +9,9 @@ ghost use Rattle.std.specs.Prelude.{◌≡◌};
 ghost use Rattle.refusals.specs.Numbers.{number_of, answer_number, fault_number, place_of, NumbersTellApart};
 ghost use Rattle.refusals.specs.Faults.{plain, at_block, in_entry, of_trade, of_record};
 
+#[cfg(test)]
+mod tests;
+
 use std::error::Error;
 use std::fmt;
 
