@@ -16,7 +16,8 @@ after-fixed : DeterminesImage LeavesImage
 after-fixed (reading b room) xs left ys zs s t = s ∙ sym t
 after-fixed (writing b bytes) xs left ys zs s t = s ∙ sym t
 after-fixed syncing xs left ys zs s t = sync-fixed (spend_answer left) xs ys zs s t
-after-fixed (restarting calls remains) xs left ys zs s t = each-fixed 514 (row_after_restart xs remains) (block_count 514 xs) xs ys zs s t
+after-fixed (restarting calls remains) xs left ys zs s t =
+    each-fixed 514 (row_after_restart xs remains) (block_count 514 xs) xs ys zs s t
 
 pub fixed : LeavesNothingOpen state_of Makes
 fixed = image-fixed 514 4294967295 LeavesImage after-fixed state_of

@@ -11,4 +11,5 @@ returns-in-3-2 c =
 pub returns-in_default : goal.returns-in_default
 returns-in_default c =
     let v = c.args.byte in
-    c.keep-in_default.ensures ∙ sym (revived-fill v c.args.row.now (λ e. omega arith) (λ e. omega arith) (λ e. omega arith) (λ e. omega arith))
+    c.keep-in_default.ensures
+    ∙ sym (revived-fill v c.args.row.now (λ e. omega arith) (λ e. omega arith) (λ e. omega arith) (λ e. omega arith))
