@@ -1,47 +1,61 @@
-// Calls, and beside each what it is to be answered.
-use crate::seen::Seen;
-use depository::Call;
+// A case: calls, and beside each the reply that it is to have.
+use depository::{Call, OpenReply, Reply};
+use engine::Verdict;
+use instruction::Instruction;
+use refusals::Fault;
 use std::alloc::{AllocError, Global};
 
 #[derive(Drop)]
 pub(crate) struct Case<'a> {
     pub calls: Vec<Call<'a>>,
-    pub wanted: Vec<Seen>,
+    pub expected: Vec<Reply>,
 }
 
 impl<'a> Case<'a> {
     pub(crate) fn new(heap: Global) -> Case<'a> {
         Case {
             calls: Vec::new(heap),
-            wanted: Vec::new(heap),
+            expected: Vec::new(heap),
         }
     }
 
-    pub(crate) fn add(&mut self, call: Call<'a>, wanted: Seen) -> Result<(), AllocError> {
+    pub(crate) fn add(&mut self, call: Call<'a>, reply: Reply) -> Result<(), AllocError> {
         self.calls.push(call)?;
-        self.wanted.push(wanted)?;
+        self.expected.push(reply)?;
         Ok(())
     }
 
-    // The power is cut.
-    pub(crate) fn restart(&mut self, calls: u32, remains: &'a [u8]) -> Result<(), AllocError> {
-        self.add(Call::Close, Seen::Done)?;
-        self.add(
-            Call::Restart {
-                calls_left: calls,
-                remains,
-            },
-            Seen::Done,
-        )
+    // An instruction, and its answer.
+    pub(crate) fn instruct(
+        &mut self,
+        x: Instruction,
+        answer: Result<(), Fault>,
+    ) -> Result<(), AllocError> {
+        self.add(Call::Instruct(x), Reply::ToInstruct(answer))
     }
 
-    // An open is answered 0.
-    pub(crate) fn reopen(&mut self, found: u32, presented: Option<u8>) -> Result<(), AllocError> {
-        let wanted = Seen::Opened {
-            answer: 0,
-            found,
-            presented,
+    // A cut of the power: a close and a restart.
+    pub(crate) fn cut_power(
+        &mut self,
+        calls_left: u32,
+        remains: &'a [u8],
+    ) -> Result<(), AllocError> {
+        self.add(Call::Close, Reply::Done)?;
+        let restart = Call::Restart {
+            calls_left,
+            remains,
         };
-        self.add(Call::Open, wanted)
+        self.add(restart, Reply::Done)
+    }
+
+    // An open that is answered 0: the entries found, and the verdict on the slip that is owed, if
+    // any.
+    pub(crate) fn open(&mut self, found: u32, verdict: Option<Verdict>) -> Result<(), AllocError> {
+        let reply = OpenReply {
+            answer: Ok(()),
+            found,
+            slip_answer: verdict.map(|verdict| Ok(verdict)),
+        };
+        self.add(Call::Open, Reply::ToOpen(reply))
     }
 }

@@ -1,149 +1,182 @@
-// Every cut: the calls of each case, with what each of them is to be answered, and where the replies differ.
+// Every cut: the calls of each case, the replies that they are to have, and where the replies
+// differ.
 use crate::case::Case;
-use crate::kinds::{DeviceKind, Register};
-use crate::seen::Seen;
-use crate::settlement::{before, last, pay_in, rows};
+use crate::kinds::{DeviceKind, ENOUGH_CALLS, PAIRS, RegisterKind};
+use crate::settlement::{TRADE, first_five, last_three, pay_in, rows};
 use balances::Balances;
-use depository::{Call, Reply, Stop, serve};
+use depository::{Call, Reply, serve};
+use engine::Verdict;
+use refusals::{Fault, Refusal};
 use std::alloc::{AllocError, Global};
 use std::cmp::Ordering;
 use std::io;
 
-// How many calls are left to the last instructions, and the byte that each loose block takes at the restart after.
+// How many calls of the device are left to the last three instructions, and the byte of remains
+// that each loose block takes at the restart after them.
 #[derive(Clone, Copy, Debug)]
-struct Cut {
-    left: u8,
+struct CutPoint {
+    calls_left: u8,
     remains: u8,
 }
 
-// An opening of five entries takes 12 calls: the header, five marks and their records, and the sixth mark.
-const OPENING: u32 = 12;
+// An instruction takes four calls: its record and its mark, with a sync after each.
+const ENTRY_CALLS: u8 = 4;
 
-// As many entries as the settlement has instructions.
-const PAIRS: u32 = 8;
+// The last three take 12.
+const LAST_CALLS: u8 = 12;
 
-// More than is needed.
-const ENOUGH: u32 = 1_000;
+// An opening that finds five entries takes 12 calls: the header, five marks with their records,
+// and the sixth mark.
+const OPENING_CALLS: u32 = 12;
 
-// What the instruction at this place is answered. Each takes four calls: its record and its mark, with a sync after each.
-fn instructed(left: u8, place: u8) -> Seen {
-    match place.cmp(&(left / 4)) {
-        Ordering::Less => Seen::Answer(0),
-        Ordering::Equal => Seen::Answer(13),
-        Ordering::Greater => Seen::Answer(42),
+// The fault of an instruction whose entry is cut after so many of its four calls. Entry k has its
+// record in block 1 + 2k and its mark in block 2 + 2k. A sync names no block.
+fn cut_fault(entry: u32, calls_made: u8, trade: Option<u32>) -> Fault {
+    let record = entry.saturating_mul(2).saturating_add(1);
+    let block = match calls_made {
+        0 => Some(record),
+        2 => Some(record.saturating_add(1)),
+        _ => None,
+    };
+    Fault {
+        block,
+        entry: Some(entry),
+        trade,
+        ..Fault::plain(Refusal::NoCalls)
     }
 }
 
-// Whether the instruction in hand is found to stand: only a mark that was written and not synced can be there or not.
-fn stands<D: DeviceKind>(cut: Cut) -> bool {
-    cut.left < 12 && cut.left % 4 == 3 && D::keeps_mark(cut.remains)
-}
-
-// Five instructions and a cut of the power, and three more, with as many calls as are left.
-fn cut_short(case: &mut Case<'_>, quantity: u64, left: u8) -> Result<(), AllocError> {
-    case.reopen(0, None)?;
-    for x in before(quantity) {
-        case.add(Call::Instruct(x), Seen::Answer(0))?;
+// What the instruction at this place of the last three is answered. Only the first, the Settle,
+// names a trade. The five before them have the entries 0 to 4.
+fn answer_at(calls_left: u8, place: u8) -> Result<(), Fault> {
+    match place.cmp(&(calls_left / ENTRY_CALLS)) {
+        Ordering::Less => Ok(()),
+        Ordering::Equal => {
+            let trade = if place == 0 { Some(TRADE) } else { None };
+            Err(cut_fault(5 + u32::from(place), calls_left % ENTRY_CALLS, trade))
+        }
+        Ordering::Greater => Err(Refusal::EngineDown.into()),
     }
-    case.restart(OPENING + u32::from(left), &[])?;
-    case.reopen(5, Some(0))?;
-    let [first, second, third] = last(quantity);
-    case.add(Call::Instruct(first), instructed(left, 0))?;
-    case.add(Call::Instruct(second), instructed(left, 1))?;
-    case.add(Call::Instruct(third), instructed(left, 2))
 }
 
-// One more instruction: it takes the next entry, whatever a cut left there; past the eighth entry there is none.
-fn go_on(case: &mut Case<'_>, standing: u8) -> Result<(), AllocError> {
+// Whether the instruction in hand stands. That is open only where its mark was written and not
+// synced.
+fn hand_stands<D: DeviceKind>(cut: CutPoint) -> bool {
+    cut.calls_left < LAST_CALLS && cut.calls_left % ENTRY_CALLS == 3 && D::keeps_mark(cut.remains)
+}
+
+// Five instructions and a cut of the power, and three more with so many calls left.
+fn add_settlement(case: &mut Case<'_>, quantity: u64, calls_left: u8) -> Result<(), AllocError> {
+    case.open(0, None)?;
+    for x in first_five(quantity) {
+        case.instruct(x, Ok(()))?;
+    }
+    case.cut_power(OPENING_CALLS + u32::from(calls_left), &[])?;
+    case.open(5, Some(Verdict::Same))?;
+    let [settle, issue, pay] = last_three(quantity);
+    case.instruct(settle, answer_at(calls_left, 0))?;
+    case.instruct(issue, answer_at(calls_left, 1))?;
+    case.instruct(pay, answer_at(calls_left, 2))
+}
+
+// One more instruction, and another cut. The instruction takes the next entry, whatever is left
+// there of the one that was cut; there is no entry after the eighth.
+fn add_one_more(case: &mut Case<'_>, standing: u8) -> Result<(), AllocError> {
     if standing < 3 {
-        case.add(Call::Instruct(pay_in(1)), Seen::Answer(0))?;
-        case.restart(ENOUGH, &[])?;
-        case.reopen(6 + u32::from(standing), Some(0))
+        case.instruct(pay_in(1), Ok(()))?;
+        case.cut_power(ENOUGH_CALLS, &[])?;
+        case.open(6 + u32::from(standing), Some(Verdict::Same))
     } else {
-        case.add(Call::Instruct(pay_in(1)), Seen::Answer(36))?;
-        case.restart(ENOUGH, &[])?;
-        case.reopen(8, Some(0))
+        case.instruct(pay_in(1), Err(Refusal::JournalFull.into()))?;
+        case.cut_power(ENOUGH_CALLS, &[])?;
+        case.open(8, Some(Verdict::Same))
     }
 }
 
-// What a cut leaves.
+// The whole case of one cut: the settlement, the cut, what stands then, and one more instruction.
 fn case_of<'a, D: DeviceKind>(
     heap: Global,
     quantity: u64,
-    cut: Cut,
+    cut: CutPoint,
     remains: &'a [u8],
 ) -> Result<Case<'a>, AllocError> {
-    let stands = stands::<D>(cut);
-    let standing = cut.left / 4 + u8::from(stands);
+    let stands = hand_stands::<D>(cut);
+    let standing = cut.calls_left / ENTRY_CALLS + u8::from(stands);
+    let verdict = if stands {
+        Verdict::Stands
+    } else {
+        Verdict::Same
+    };
     let mut case = Case::new(heap);
-    cut_short(&mut case, quantity, cut.left)?;
-    case.restart(ENOUGH, remains)?;
-    case.reopen(5 + u32::from(standing), Some(u8::from(stands)))?;
+    add_settlement(&mut case, quantity, cut.calls_left)?;
+    case.cut_power(ENOUGH_CALLS, remains)?;
+    case.open(5 + u32::from(standing), Some(verdict))?;
     for row in rows(quantity) {
-        case.add(Call::Ask(row.question), row.told(standing))?;
+        case.add(Call::Ask(row.question), row.reply(standing))?;
     }
-    go_on(&mut case, standing)?;
+    add_one_more(&mut case, standing)?;
     Ok(case)
 }
 
-// Prints where the replies differ from what is wanted, and answers whether they do not.
-fn compare(rt: &HostRuntime, cut: Cut, replies: &[Reply], wanted: &[Seen]) -> io::Result<bool> {
+// Prints each reply that is not as expected, and answers whether there was none.
+fn compare(
+    rt: &HostRuntime,
+    cut: CutPoint,
+    replies: &[Reply],
+    expected: &[Reply],
+) -> io::Result<bool> {
     let mut same = true;
-    for (place, (reply, want)) in replies.iter().zip(wanted).enumerate() {
-        let seen = Seen::from(*reply);
-        if seen != *want {
-            println!(rt; "  {cut:?}: call {place} was answered {seen:?}, not {want:?}")?;
+    for (place, (reply, wanted)) in replies.iter().zip(expected).enumerate() {
+        if reply != wanted {
+            println!(rt; "  {cut:?}: call {place} was answered {reply:?}, not {wanted:?}")?;
             same = false;
         }
     }
-    if replies.len() != wanted.len() {
+    if replies.len() != expected.len() {
         println!(rt; "  {cut:?}: another number of replies")?;
         same = false;
     }
     Ok(same)
 }
 
-// Carries a case out, and answers whether all is as wanted.
-fn check<D: DeviceKind, R: Register>(rt: &HostRuntime, cut: Cut) -> io::Result<bool> {
-    let image = vec![in rt.alloc(); 0u8; D::IMAGE]?;
+// Carries a case out, and answers whether all is as expected.
+fn check<D: DeviceKind, R: RegisterKind>(rt: &HostRuntime, cut: CutPoint) -> io::Result<bool> {
+    let image = vec![in rt.alloc(); 0u8; D::IMAGE_LEN]?;
     let remains = [cut.remains; 8];
     let case = case_of::<D>(rt.alloc(), R::QUANTITY, cut, &remains)?;
-    let device = D::of_image(image);
     let calls = case.calls.as_slice();
     let mut replies = Vec::with_capacity(rt.alloc(), calls.len())?;
     let (depository, served) = serve(
-        device,
+        D::over(image),
         PAIRS,
-        R::fresh(),
+        R::empty(),
         Balances::new(),
         calls,
         &mut replies,
     );
     let (_, owed) = depository.finish();
-    match served {
-        Ok(()) => {
-            let same = compare(rt, cut, &replies, &case.wanted)?;
-            if owed.is_some() {
-                println!(rt; "  {cut:?}: a slip is still owed")?;
-            }
-            Ok(same && owed.is_none())
-        }
-        Err(Stop::ByFault(fault)) => {
-            println!(rt; "  {cut:?}: the format was refused {}", fault.number())?;
-            Ok(false)
-        }
-        // there is room for the replies
-        Err(Stop::NoMemory(_)) => unreachable!(),
+    if let Err(stop) = served {
+        println!(rt; "  {cut:?}: {stop}")?;
+        return Ok(false);
     }
+    let same = compare(rt, cut, &replies, &case.expected)?;
+    if owed.is_some() {
+        println!(rt; "  {cut:?}: a slip is still owed")?;
+    }
+    Ok(same && owed.is_none())
 }
 
-// Every cut of one kind of device and register. Three instructions have 12 calls.
-pub(crate) fn check_all<D: DeviceKind, R: Register>(rt: &HostRuntime) -> io::Result<()> {
+// Every cut of one kind of device and of register.
+pub(crate) fn check_all<D: DeviceKind, R: RegisterKind>(rt: &HostRuntime) -> io::Result<()> {
     let mut cases = 0u32;
     let mut differing = 0u32;
-    for left in 0..=12 {
+    for calls_left in 0..=LAST_CALLS {
         for remains in 0..=u8::MAX {
-            let same = check::<D, R>(rt, Cut { left, remains })?;
+            let cut = CutPoint {
+                calls_left,
+                remains,
+            };
+            let same = check::<D, R>(rt, cut)?;
             cases = cases.saturating_add(1);
             differing = differing.saturating_add(u32::from(!same));
         }

@@ -1,11 +1,14 @@
-// Cuts the power at every call of a small settlement's last instructions, with every byte of remains, on both devices, and
-// compares all that a depository answers with what is worked out by hand.
+//! A program that checks: it cuts the power at every call of a small settlement's last three
+//! instructions, with every byte of remains, on both devices and over both kinds of register. It
+//! compares each reply of the depository with one that was worked out by hand from the rules.
+//!
+//! For each device and register it prints how many cases there were and how many differed, and
+//! before that a line for each reply that differs.
 #![tactic(auto)]
 
 mod case;
 mod cutting;
 mod kinds;
-mod seen;
 mod settlement;
 
 use balances::Balances;

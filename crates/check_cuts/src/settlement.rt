@@ -1,7 +1,7 @@
-// A settlement in eight instructions, of which the last three are cut; and, worked out by hand, what stands after each of them.
-use crate::seen::Seen;
+// A settlement in eight instructions, of which the last three are cut. What stands after each of
+// them was worked out by hand from the rules.
 use book::Holding;
-use depository::Question;
+use depository::{Fact, Question, Reply};
 use instruction::{Instruction, Kind};
 use rulebook::State;
 
@@ -9,7 +9,7 @@ const SELLER: u16 = 1;
 
 const BUYER: u16 = 2;
 
-const TRADE: u32 = 7;
+pub(crate) const TRADE: u32 = 7;
 
 fn issue(item: u16, quantity: u64) -> Instruction {
     Instruction {
@@ -39,8 +39,8 @@ fn enter(quantity: u64, amount: u64) -> Instruction {
     }
 }
 
-// What stands before the cut.
-pub(crate) fn before(quantity: u64) -> [Instruction; 5] {
+// The instructions before the cut, which all stand.
+pub(crate) fn first_five(quantity: u64) -> [Instruction; 5] {
     [
         issue(0, quantity),
         pay_in(8_000),
@@ -50,8 +50,8 @@ pub(crate) fn before(quantity: u64) -> [Instruction; 5] {
     ]
 }
 
-// What is cut.
-pub(crate) fn last(quantity: u64) -> [Instruction; 3] {
+// The instructions that are cut.
+pub(crate) fn last_three(quantity: u64) -> [Instruction; 3] {
     [
         Instruction::on_trade(Kind::Settle, TRADE),
         issue(1, quantity),
@@ -59,20 +59,21 @@ pub(crate) fn last(quantity: u64) -> [Instruction; 3] {
     ]
 }
 
-// A question, and what is told of it where none, one, two or all of the last instructions stand.
+// A question, and the reply to it if none, one, two or all of the last three instructions stand.
 #[derive(Clone, Copy)]
 pub(crate) struct Row {
     pub question: Question,
-    told: [Seen; 4],
+    replies: [Reply; 4],
 }
 
 impl Row {
-    fn new(question: Question, told: [Seen; 4]) -> Row {
-        Row { question, told }
+    fn new(question: Question, replies: [Reply; 4]) -> Row {
+        Row { question, replies }
     }
 
-    pub(crate) fn told(&self, standing: u8) -> Seen {
-        let [none, one, two, all] = self.told;
+    // The reply if this many of the last three stand.
+    pub(crate) fn reply(&self, standing: u8) -> Reply {
+        let [none, one, two, all] = self.replies;
         match standing {
             0 => none,
             1 => one,
@@ -82,36 +83,43 @@ impl Row {
     }
 }
 
-fn securities(account: u16, item: u16, told: [Seen; 4]) -> Row {
-    Row::new(Question::Securities { account, item }, told)
+fn securities(account: u16, item: u16, replies: [Reply; 4]) -> Row {
+    Row::new(Question::Securities { account, item }, replies)
 }
 
-fn money(account: u16, told: [Seen; 4]) -> Row {
+fn money(account: u16, replies: [Reply; 4]) -> Row {
     let currency = 0;
-    Row::new(Question::Money { account, currency }, told)
+    Row::new(Question::Money { account, currency }, replies)
 }
 
-fn held(free: u64, blocked: u64) -> Seen {
-    Seen::Holding(Holding { free, blocked })
+fn amounts(free: u64, blocked: u64) -> Reply {
+    Reply::ToAsk(Ok(Fact::Holding(Holding { free, blocked })))
 }
 
-// What stands, as worked out by hand.
+fn trade_state(state: State) -> Reply {
+    Reply::ToAsk(Ok(Fact::State(state)))
+}
+
+// What each question is to be answered, worked out by hand.
 pub(crate) fn rows(quantity: u64) -> [Row; 8] {
-    let none = held(0, 0);
-    let lot = held(quantity, 0);
-    let earmarked = held(0, quantity);
-    let price = held(5_000, 0);
-    let rest = held(3_000, 0);
-    let funded = Seen::State(State::Funded);
-    let settled = Seen::State(State::Settled);
-    let entries = [5, 6, 7, 8].map(Seen::Entries);
+    let nothing = amounts(0, 0);
+    let lot = amounts(quantity, 0);
+    let earmarked = amounts(0, quantity);
+    let price = amounts(5_000, 0);
+    let rest = amounts(3_000, 0);
+    let funded = trade_state(State::Funded);
+    let settled = trade_state(State::Settled);
+    let entries = [5, 6, 7, 8].map(|count| Reply::ToAsk(Ok(Fact::Entries(count))));
     [
-        securities(SELLER, 0, [earmarked, none, none, none]),
-        securities(BUYER, 0, [none, lot, lot, lot]),
-        securities(SELLER, 1, [none, none, lot, lot]),
-        securities(BUYER, 1, [none; 4]),
-        money(SELLER, [none, price, price, price]),
-        money(BUYER, [held(3_000, 5_000), rest, rest, held(3_600, 0)]),
+        securities(SELLER, 0, [earmarked, nothing, nothing, nothing]),
+        securities(BUYER, 0, [nothing, lot, lot, lot]),
+        securities(SELLER, 1, [nothing, nothing, lot, lot]),
+        securities(BUYER, 1, [nothing; 4]),
+        money(SELLER, [nothing, price, price, price]),
+        money(
+            BUYER,
+            [amounts(3_000, 5_000), rest, rest, amounts(3_600, 0)],
+        ),
         Row::new(
             Question::TradeState(TRADE),
             [funded, settled, settled, settled],

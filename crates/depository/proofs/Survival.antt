@@ -1,4 +1,4 @@
--- The law of survival, along a path.
+-- The law of survival holds where a path ends, since each call keeps the tally.
 use Rattle.std.proofs.Common.{◌+◌, ◌*◌, ◌≡◌, ℕ, ◌<◌, ◌≤◌, List, [], ◌∷◌, Some, None, Ok, Err, Option, sym, refl, ap, ◌∙◌, subst, arith}
 use Rattle.std.specs.Option.{option_or}
 use Rattle.refusals.specs.declared.Fault.{Fault}
@@ -33,20 +33,21 @@ use Rattle.depository.specs.Calling.{Yields, LeadsTo, slip_answer, owed_after_op
 use Rattle.depository.specs.CallTally.{Tally, tally_after, empty_tally, tally, tally_from}
 use Rattle.depository.specs.Paths.{Path, no_calls, first_call, slip_of_call, last_known_slip}
 use Rattle.depository.specs.Survival.{IsStandingList, JudgesLastSlip, SlipTellsTally, IsOpenAccepted, SurvivalLaw, AlsoHolds}
-use Rattle.depository.proofs.KeepsTally.{Matches, Paired, InEngine, KeepsTallyBy, KeepsTallyIn, KeepsTally}
+use Rattle.depository.proofs.KeepsTally.{SlipMatches, IsPairCount, InEngine, KeepsTallyBy, KeepsTallyIn, KeepsTally}
 use Rattle.depository.proofs.Instructing.{instructed}
 use Rattle.depository.proofs.Reopening.{closed, restarted, reopened}
 
--- What is owed, against what the last closing told: an engine that is open or down owes what it likes, since its own slip will
--- tell something.
+-- The slip that is owed is the last known one: while no engine runs, and under one whose opening
+-- was refused. Under an engine that is open or down nothing is claimed of it: that engine's own
+-- closing slip will be known, and will be owed in its place.
 abbrev pub OwesBy : Option Contents → Mode → Option Contents → Type 0
-OwesBy told Open l = Unit {0}
-OwesBy told (Down x) l = Unit {0}
-OwesBy told (Refused f) l = l ≡ told
+OwesBy last_slip Open l = Unit {0}
+OwesBy last_slip (Down x) l = Unit {0}
+OwesBy last_slip (Refused f) l = l ≡ last_slip
 
 abbrev pub Owes : Option Contents → Phase → Option Contents → Type 0
-Owes told (running v) l = OwesBy told v.mode l
-Owes told (shut m books) l = l ≡ told
+Owes last_slip (running v) l = OwesBy last_slip v.mode l
+Owes last_slip (shut m books) l = l ≡ last_slip
 
 or-none : {X : Type 0} (o : Option X) → option_or o None ≡ o
 or-none None = refl
@@ -60,78 +61,103 @@ pub same-reply : {o o' : OpenReply} → ToOpen o ≡ ToOpen o' → o ≡ o'
 same-reply e = cc
 
 module _ (h : Rulebook) (most : ℕ) where
-  owes-at : (told : Option Contents) {r r₀ : Reply} {b b₀ : Moment} → Yields r r₀ b b₀ → Owes told b₀.phase b₀.owed → Owes told b.phase b.owed
-  owes-at told e o = subst (λ (n : Moment). Owes told n.phase n.owed) (sym e.moment) o
+  -- this holds after each call, with what the call's own slip tells taken into account
+  owes-at : (last_slip : Option Contents) {r r₀ : Reply} {b b₀ : Moment} → Yields r r₀ b b₀
+      → Owes last_slip b₀.phase b₀.owed → Owes last_slip b.phase b.owed
+  owes-at last_slip e o = subst (λ (n : Moment). Owes last_slip n.phase n.owed) (sym e.moment) o
 
-  owes-left : (told : Option Contents) (c w : Answer) (x : Instruction) (v v' : View) (l : Option Contents) → Leaves c w x v v' → OwesBy told v.mode l → OwesBy told v'.mode l
-  owes-left told (Err f) w x v v' l e o = subst (λ (z : View). OwesBy told z.mode l) (sym e) o
-  owes-left told (Ok u) (Ok w) x v v' l a o = subst (λ z. OwesBy told z l) (sym a.mode) tt
-  owes-left told (Ok u) (Err f) x v v' l a o = subst (λ z. OwesBy told z l) (sym a.mode) tt
+  owes-left : (last_slip : Option Contents) (c w : Answer) (x : Instruction) (v v' : View) (l : Option Contents)
+      → Leaves c w x v v' → OwesBy last_slip v.mode l → OwesBy last_slip v'.mode l
+  owes-left last_slip (Err f) w x v v' l e o = subst (λ (z : View). OwesBy last_slip z.mode l) (sym e) o
+  owes-left last_slip (Ok u) (Ok w) x v v' l a o = subst (λ z. OwesBy last_slip z l) (sym a.mode) tt
+  owes-left last_slip (Ok u) (Err f) x v v' l a o = subst (λ z. OwesBy last_slip z l) (sym a.mode) tt
 
-  owes-closed : (told : Option Contents) (m : Mode) (n : ℕ) (l : Option Contents) → OwesBy told m l → newest_known (contents_by_mode m n) l ≡ option_or (contents_by_mode m n) told
-  owes-closed told Open n l o = refl
-  owes-closed told (Down x) n l o = refl
-  owes-closed told (Refused f) n l o = o
+  owes-closed : (last_slip : Option Contents) (m : Mode) (n : ℕ) (l : Option Contents) → OwesBy last_slip m l
+      → newest_known (contents_by_mode m n) l ≡ option_or (contents_by_mode m n) last_slip
+  owes-closed last_slip Open n l o = refl
+  owes-closed last_slip (Down x) n l o = refl
+  owes-closed last_slip (Refused f) n l o = o
 
-  owes-opened : (told : Option Contents) (m : Mode) (l : Option Contents) → l ≡ told → OwesBy told m (owed_after_open m l)
-  owes-opened told Open l o = tt
-  owes-opened told (Down x) l o = tt
-  owes-opened told (Refused f) l o = o
+  owes-opened : (last_slip : Option Contents) (m : Mode) (l : Option Contents) → l ≡ last_slip
+      → OwesBy last_slip m (owed_after_open m l)
+  owes-opened last_slip Open l o = tt
+  owes-opened last_slip (Down x) l o = tt
+  owes-opened last_slip (Refused f) l o = o
 
-  owes-next : (told : Option Contents) (a : Phase) (l : Option Contents) (c : Order) (r : Reply) (b : Moment) → LeadsTo h most (moment_in a l) c r b → Owes told a l → Owes (option_or (slip_of_call a c) told) b.phase b.owed
-  owes-next told (running v) l (instruct_order x) r b d o = owes-at _ d.yields (owes-left told (check_answer h x v) (write_entry_answer v.medium v.entry_count) x v d.after l d.engine.after o)
-  owes-next told (running v) l close_order r b d o = owes-at _ d (owes-closed told v.mode v.entry_count l o)
-  owes-next told (running v) l (restart_order q remains) r b d o = owes-at _ d o
-  owes-next told (running v) l open_order r b d o = owes-at _ d o
-  owes-next told (running v) l (ask_order q) r b d o = owes-at _ d o
-  owes-next told (shut m books) l (instruct_order x) r b d o = owes-at _ d o
-  owes-next told (shut m books) l close_order r b d o = owes-at _ d o
-  owes-next told (shut m books) l (restart_order q remains) r b d o = owes-at _ d.yields o
-  owes-next told (shut m books) l open_order r b d o = owes-at _ d (owes-opened told (opening_view h m).mode l o)
-  owes-next told (shut m books) l (ask_order q) r b d o = owes-at _ d o
+  owes-next : (last_slip : Option Contents) (a : Phase) (l : Option Contents) (c : Order) (r : Reply) (b : Moment)
+      → LeadsTo h most (moment_in a l) c r b → Owes last_slip a l
+      → Owes (option_or (slip_of_call a c) last_slip) b.phase b.owed
+  owes-next last_slip (running v) l (instruct_order x) r b d o = owes-at _ d.yields
+      (owes-left last_slip (check_answer h x v)
+      (write_entry_answer v.medium v.entry_count) x v d.after l d.engine.after o)
+  owes-next last_slip (running v) l close_order r b d o = owes-at _ d (owes-closed last_slip v.mode v.entry_count l o)
+  owes-next last_slip (running v) l (restart_order q remains) r b d o = owes-at _ d o
+  owes-next last_slip (running v) l open_order r b d o = owes-at _ d o
+  owes-next last_slip (running v) l (ask_order q) r b d o = owes-at _ d o
+  owes-next last_slip (shut m books) l (instruct_order x) r b d o = owes-at _ d o
+  owes-next last_slip (shut m books) l close_order r b d o = owes-at _ d o
+  owes-next last_slip (shut m books) l (restart_order q remains) r b d o = owes-at _ d.yields o
+  owes-next last_slip (shut m books) l open_order r b d o = owes-at _ d
+      (owes-opened last_slip (opening_view h m).mode l o)
+  owes-next last_slip (shut m books) l (ask_order q) r b d o = owes-at _ d o
 
-  -- what is owed where a path ends
-  owes-along : {D : Type 0} {makes : D → DeviceCall → D → Type 0} {means : D → Medium} {a b : Moment} {d e : D} {cs : List Order} {rs : List Reply} (told : Option Contents) (q : Path makes means h most a d cs rs b e) → Owes told a.phase a.owed
-      → Owes (option_or (last_known_slip q) told) b.phase b.owed
+  -- and so where a path ends
+  owes-along : {D : Type 0} {makes : D → DeviceCall → D → Type 0} {means : D → Medium} {a b : Moment} {d e : D}
+      {cs : List Order} {rs : List Reply} (last_slip : Option Contents) (q : Path makes means h most a d cs rs b e)
+      → Owes last_slip a.phase a.owed
+      → Owes (option_or (last_known_slip q) last_slip) b.phase b.owed
   unfolding last_known_slip
-  owes-along told (no_calls is) o = o
-  owes-along told (first_call {a = a} {m = m} {b = b} {c = c} {r = r} s q) o =
-      subst (λ u. Owes u b.phase b.owed) (or-or (last_known_slip q) (slip_of_call a.phase c) told)
-      (owes-along (option_or (slip_of_call a.phase c) told) q (owes-next told a.phase a.owed c r m s.does o))
+  owes-along last_slip (no_calls is) o = o
+  owes-along last_slip (first_call {a = a} {m = m} {b = b} {c = c} {r = r} s q) o =
+      subst (λ u. Owes u b.phase b.owed) (or-or (last_known_slip q) (slip_of_call a.phase c) last_slip)
+      (owes-along (option_or (slip_of_call a.phase c) last_slip) q (owes-next last_slip a.phase a.owed c r m s.does o))
 
-module _ (h : Rulebook) (most pairs : ℕ) (p : Paired pairs) (c₁ : (h.book_kind securities).code < 256) (c₂ : (h.book_kind cash).code < 256) where
-  by-leads : (t : Tally) (c : Order) {r r₀ : Reply} {b b₀ : Moment} → Yields r r₀ b b₀ → KeepsTally h pairs (tally_after t c r₀) b₀ → KeepsTally h pairs (tally_after t c r) b
-  by-leads t c {r} {r₀} {b} {b₀} e k = subst (λ s. KeepsTally h pairs (tally_after t c s) b) (sym e.reply) (subst (λ n. KeepsTally h pairs (tally_after t c r₀) n) (sym e.moment) k)
+module _ (h : Rulebook) (most pairs : ℕ) (p : IsPairCount pairs) (c₁ : (h.book_kind securities).code < 256)
+    (c₂ : (h.book_kind cash).code < 256) where
+  -- what a call answers and where it leads, as `Yields` says it
+  by-leads : (t : Tally) (c : Order) {r r₀ : Reply} {b b₀ : Moment} → Yields r r₀ b b₀
+      → KeepsTally h pairs (tally_after t c r₀) b₀ → KeepsTally h pairs (tally_after t c r) b
+  by-leads t c {r} {r₀} {b} {b₀} e k = subst (λ s. KeepsTally h pairs (tally_after t c s) b) (sym e.reply)
+      (subst (λ n. KeepsTally h pairs (tally_after t c r₀) n) (sym e.moment) k)
 
-  -- a call keeps the tally that it is fed to
-  kept-next : (t : Tally) (a : Phase) (l : Option Contents) (c : Order) (r : Reply) (b : Moment) → LeadsTo h most (moment_in a l) c r b → ((x : Instruction) → c ≡ instruct_order x → Fit x) → IsBounded (medium_in a) → KeepsTally h pairs t (moment_in a l)
+  -- each call leaves a moment that keeps the tally after it
+  kept-next : (t : Tally) (a : Phase) (l : Option Contents) (c : Order) (r : Reply) (b : Moment)
+      → LeadsTo h most (moment_in a l) c r b → ((x : Instruction) → c ≡ instruct_order x → Fit x)
+      → IsBounded (medium_in a) → KeepsTally h pairs t (moment_in a l)
       → KeepsTally h pairs (tally_after t c r) b
-  kept-next t (running v) l (instruct_order x) r b d fit bounded k = by-leads t (instruct_order x) d.yields (instructed h pairs p.few t x (fit x refl) v d.after l d.answer d.engine k)
+  kept-next t (running v) l (instruct_order x) r b d fit bounded k = by-leads t (instruct_order x) d.yields
+      (instructed h pairs p.few t x (fit x refl) v d.after l d.answer d.engine k)
   kept-next t (running v) l close_order r b d fit bounded k = by-leads t close_order d (closed h pairs t v l v.mode k)
   kept-next t (running v) l (restart_order q remains) r b d fit bounded k = by-leads t (restart_order q remains) d k
   kept-next t (running v) l open_order r b d fit bounded k = by-leads t open_order d k
   kept-next t (running v) l (ask_order q) r b d fit bounded k = by-leads t (ask_order q) d k
   kept-next t (shut m books) l (instruct_order x) r b d fit bounded k = by-leads t (instruct_order x) d k
   kept-next t (shut m books) l close_order r b d fit bounded k = by-leads t close_order d k
-  kept-next t (shut m books) l (restart_order q remains) r b d fit bounded k = by-leads t (restart_order q remains) d.yields (restarted h pairs t m d.after q most d.device k.0, k.1)
-  kept-next t (shut m books) l open_order r b d fit bounded k = by-leads t open_order d (reopened h pairs t m l p c₁ c₂ bounded k.0 k.1).kept
+  kept-next t (shut m books) l (restart_order q remains) r b d fit bounded k = by-leads t
+      (restart_order q remains) d.yields (restarted h pairs t m d.after q most d.device k.0, k.1)
+  kept-next t (shut m books) l open_order r b d fit bounded k = by-leads t open_order d
+      (reopened h pairs t m l p c₁ c₂ bounded k.0 k.1).kept
   kept-next t (shut m books) l (ask_order q) r b d fit bounded k = by-leads t (ask_order q) d k
 
   tally-none : (t : Tally) (rs : List Reply) → tally_from t [] rs ≡ t
   unfolding tally_from
   tally-none t rs = refl
 
-  tally-more : (t : Tally) (c : Order) (r : Reply) (cs : List Order) (rs : List Reply) → tally_from t (c ∷ cs) (r ∷ rs) ≡ tally_from (tally_after t c r) cs rs
+  tally-more : (t : Tally) (c : Order) (r : Reply) (cs : List Order) (rs : List Reply)
+      → tally_from t (c ∷ cs) (r ∷ rs) ≡ tally_from (tally_after t c r) cs rs
   unfolding tally_from
   tally-more t c r cs rs = refl
 
-  -- what a moment keeps of its tally says
-  engine-by : (t : Tally) (v : View) (l : Option Contents) (m : Mode) → KeepsTallyBy h pairs t v l m → opening_answer m ≡ Ok tt → InEngine h pairs t v
+  -- What the law says, from what a moment keeps of its tally. First, of an engine that is open or
+  -- down: the standing list and the journal.
+  engine-by : (t : Tally) (v : View) (l : Option Contents) (m : Mode) → KeepsTallyBy h pairs t v l m
+      → opening_answer m ≡ Ok tt → InEngine h pairs t v
   engine-by t v l Open k e = k.1
   engine-by t v l (Down x) k e = k.1
   engine-by t v l (Refused f) k e = absurd cc
 
-  engine-in : (t : Tally) (b : Moment) → KeepsTally h pairs t b → (v : View) → b.phase ≡ running v → opening_answer v.mode ≡ Ok tt → InEngine h pairs t v
+  engine-in : (t : Tally) (b : Moment) → KeepsTally h pairs t b → (v : View) → b.phase ≡ running v
+      → opening_answer v.mode ≡ Ok tt → InEngine h pairs t v
   engine-in t b k v is e = engine-by t v b.owed v.mode (subst (λ a. KeepsTallyIn h pairs t a b.owed) is k) e
 
   stands : (t : Tally) (v : View) → InEngine h pairs t v → IsStandingList h t.list v
@@ -141,40 +167,59 @@ module _ (h : Rulebook) (most pairs : ℕ) (p : Paired pairs) (c₁ : (h.book_ki
     determines = law-of-the-ledger h t.list v.standing k.runs;
   }
 
-  journal-by : (t : Tally) (v : View) (l : Option Contents) (m : Mode) → KeepsTallyBy h pairs t v l m → Journal (blocks_for_books h pairs) v.medium t.list t.in_hand
+  journal-by : (t : Tally) (v : View) (l : Option Contents) (m : Mode) → KeepsTallyBy h pairs t v l m
+      → Journal (blocks_for_books h pairs) v.medium t.list t.in_hand
   journal-by t v l Open k = k.1.device.journal
   journal-by t v l (Down x) k = k.1.device.journal
   journal-by t v l (Refused f) k = k.0.journal
 
-  journal-in : (t : Tally) (a : Phase) (l : Option Contents) → KeepsTallyIn h pairs t a l → Journal (blocks_for_books h pairs) (medium_in a) t.list t.in_hand
+  journal-in : (t : Tally) (a : Phase) (l : Option Contents) → KeepsTallyIn h pairs t a l
+      → Journal (blocks_for_books h pairs) (medium_in a) t.list t.in_hand
   journal-in t (running v) l k = journal-by t v l v.mode k
   journal-in t (shut m books) l k = k.0.journal
 
-  -- what is in hand
-  idle-by : (t : Tally) (v : View) (l : Option Contents) (m : Mode) → KeepsTallyBy h pairs t v l m → m ≡ Open → t.in_hand ≡ None
+  -- what is in hand, by the engine's mode
+  idle-by : (t : Tally) (v : View) (l : Option Contents) (m : Mode) → KeepsTallyBy h pairs t v l m → m ≡ Open
+      → t.in_hand ≡ None
   idle-by t v l Open k e = k.0
   idle-by t v l (Down x) k e = absurd cc
   idle-by t v l (Refused f) k e = absurd cc
 
-  hand-by : (t : Tally) (v : View) (l : Option Contents) (m : Mode) → KeepsTallyBy h pairs t v l m → (x : Instruction) → m ≡ Down x → t.in_hand ≡ Some x
+  hand-by : (t : Tally) (v : View) (l : Option Contents) (m : Mode) → KeepsTallyBy h pairs t v l m
+      → (x : Instruction) → m ≡ Down x → t.in_hand ≡ Some x
   hand-by t v l Open k x e = absurd cc
   hand-by t v l (Down y) k x e = let same : y ≡ x = cc in k.0 ∙ ap (λ (z : Instruction). Some z) same
   hand-by t v l (Refused f) k x e = absurd cc
 
-  tells : (t : Tally) (l : Option Contents) → Matches l t → SlipTellsTally l t
+  -- the slip that is owed tells the tally
+  tells : (t : Tally) (l : Option Contents) → SlipMatches l t → SlipTellsTally l t
   tells t None k = record { no_slip = λ e. k; slip = λ c e. absurd cc }
   tells t (Some d) k = record {
     no_slip = λ e. absurd cc;
-    slip = λ c e. let same : d ≡ c = cc in (sym (ap (λ (z : Contents). z.entries) same) ∙ k.0, sym (ap (λ (z : Contents). z.hand) same) ∙ k.1);
+    slip = λ c e. let same : d ≡ c = cc in (
+      sym (ap (λ (z : Contents). z.entries) same) ∙ k.0,
+      sym
+          (ap (λ (z : Contents). z.hand) same) ∙ k.1,
+    );
   }
 
-  slip-in : (t : Tally) (told : Option Contents) (a : Phase) (l : Option Contents) → KeepsTallyIn h pairs t a l → Owes told a l → (m : Medium) (books : Side → Holdings) → a ≡ shut m books → SlipTellsTally told t
-  slip-in t told (running v) l k o m books e = absurd cc
-  slip-in t told (shut n others) l k o m books e = subst (λ u. SlipTellsTally u t) o (tells t l k.1)
+  slip-in : (t : Tally) (last_slip : Option Contents) (a : Phase) (l : Option Contents) → KeepsTallyIn h pairs t a l
+      → Owes last_slip a l → (m : Medium) (books : Side → Holdings) → a ≡ shut m books → SlipTellsTally last_slip t
+  slip-in t last_slip (running v) l k o m books e = absurd cc
+  slip-in t last_slip (shut n others) l k o m books e = subst (λ u. SlipTellsTally u t) o (tells t l k.1)
 
-  -- the open that comes next
-  well : (m : Medium) (l : Option Contents) (r : Reply) → opening_answer (opening_view h m).mode ≡ Ok tt → r ≡ reply_to_open (opening_view h m) l → IsOpenAccepted r
-  well m l r e is = (record { answer = opening_answer (opening_view h m).mode; found = (opening_view h m).found; slip_answer = slip_answer (opening_view h m).mode (opening_view h m).found (opening_view h m).last_found l }, is, e)
+  -- the open that comes next: it is answered 0 if calls enough are left,
+  well : (m : Medium) (l : Option Contents) (r : Reply) → opening_answer (opening_view h m).mode ≡ Ok tt
+      → r ≡ reply_to_open (opening_view h m) l → IsOpenAccepted r
+  well m l r e is = (
+    record {
+      answer = opening_answer (opening_view h m).mode;
+      found = (opening_view h m).found;
+      slip_answer = slip_answer (opening_view h m).mode (opening_view h m).found (opening_view h m).last_found l;
+    },
+    is,
+    e,
+  )
 
   same-engine : {v w : View} → running v ≡ running w → v ≡ w
   same-engine e = cc
@@ -182,7 +227,9 @@ module _ (h : Rulebook) (most pairs : ℕ) (p : Paired pairs) (c₁ : (h.book_ki
   no-misfit : {o : OpenReply} → ToOpen o ≡ Misfit → ⊥
   no-misfit e = cc
 
-  enough : (t : Tally) (a : Phase) (l : Option Contents) → KeepsTally h pairs t (moment_in a l) → IsBounded (medium_in a) → (m : Medium) (books : Side → Holdings) → a ≡ shut m books → 1 + 2 * pairs ≤ m.calls_left
+  enough : (t : Tally) (a : Phase) (l : Option Contents) → KeepsTally h pairs t (moment_in a l)
+      → IsBounded (medium_in a) → (m : Medium) (books : Side → Holdings) → a ≡ shut m books
+      → 1 + 2 * pairs ≤ m.calls_left
       → (r : Reply) (z : Moment) → LeadsTo h most (moment_in a l) open_order r z → IsOpenAccepted r
   enough t (running v) l k bounded m books e low r z d = absurd cc
   enough t (shut n others) l k bounded m books e low r z d =
@@ -190,17 +237,23 @@ module _ (h : Rulebook) (most pairs : ℕ) (p : Paired pairs) (c₁ : (h.book_ki
       let o = reopened h pairs t n l p c₁ c₂ bounded k.0 k.1 in
       well n l r (o.prompt (subst (λ (u : Medium). 1 + 2 * pairs ≤ u.calls_left) (sym same) low)) d.reply
 
-  refused : (t : Tally) (a : Phase) (l : Option Contents) → KeepsTally h pairs t (moment_in a l) → IsBounded (medium_in a) → (r : Reply) (z : Moment) → LeadsTo h most (moment_in a l) open_order r z
+  -- it is refused only with 13,
+  refused : (t : Tally) (a : Phase) (l : Option Contents) → KeepsTally h pairs t (moment_in a l)
+      → IsBounded (medium_in a) → (r : Reply) (z : Moment) → LeadsTo h most (moment_in a l) open_order r z
       → (o : OpenReply) (f : Fault) → r ≡ ToOpen o → o.answer ≡ Err f → number_of f.refusal ≡ 13
   refused t (running v) l k bounded r z d o f is e = absurd (no-misfit (sym is ∙ d.reply))
   refused t (shut m books) l k bounded r z d o f is e =
       let same = same-reply (sym d.reply ∙ is) in
       (reopened h pairs t m l p c₁ c₂ bounded k.0 k.1).refused f (ap (λ (u : OpenReply). u.answer) same ∙ e)
 
-  verdict : (t : Tally) (told : Option Contents) (a : Phase) (l : Option Contents) → KeepsTally h pairs t (moment_in a l) → Owes told a l → IsBounded (medium_in a) → (r : Reply) (z : Moment) → LeadsTo h most (moment_in a l) open_order r z
-      → (o : OpenReply) → r ≡ ToOpen o → o.answer ≡ Ok tt → (v : View) → z.phase ≡ running v → JudgesLastSlip told o v
-  verdict t told (running w) l k owes bounded r z d o is e v gives = absurd (no-misfit (sym is ∙ d.reply))
-  verdict t told (shut m books) l k owes bounded r z d o is e v gives =
+  -- and answered 0 it judges the slip that is owed
+  verdict : (t : Tally) (last_slip : Option Contents) (a : Phase) (l : Option Contents)
+      → KeepsTally h pairs t (moment_in a l) → Owes last_slip a l → IsBounded (medium_in a)
+      → (r : Reply) (z : Moment) → LeadsTo h most (moment_in a l) open_order r z
+      → (o : OpenReply) → r ≡ ToOpen o → o.answer ≡ Ok tt → (v : View) → z.phase ≡ running v
+      → JudgesLastSlip last_slip o v
+  verdict t last_slip (running w) l k owes bounded r z d o is e v gives = absurd (no-misfit (sym is ∙ d.reply))
+  verdict t last_slip (shut m books) l k owes bounded r z d o is e v gives =
       let same = same-reply (sym d.reply ∙ is) in
       let engine : opening_view h m ≡ v = same-engine (sym (ap (λ (n : Moment). n.phase) d.moment) ∙ gives) in
       let j = (reopened h pairs t m l p c₁ c₂ bounded k.0 k.1).judged (ap (λ (u : OpenReply). u.answer) same ∙ e) in
@@ -208,21 +261,27 @@ module _ (h : Rulebook) (most pairs : ℕ) (p : Paired pairs) (c₁ : (h.book_ki
       let j₂ = subst (λ u. JudgesLastSlip l o u) engine j₁ in
       subst (λ u. JudgesLastSlip u o v) owes j₂
 
-  module _ {D : Type 0} (makes : D → DeviceCall → D → Type 0) (means : D → Medium) (bounds : (x : D) → IsBounded (means x)) where
+  module _ {D : Type 0} (makes : D → DeviceCall → D → Type 0) (means : D → Medium)
+      (bounds : (x : D) → IsBounded (means x)) where
     bounded-in : (a : Phase) (x : D) → means x ≡ medium_in a → IsBounded (medium_in a)
     bounded-in a x e = subst IsBounded e (bounds x)
 
-    path-means : {a b : Moment} {d e : D} {cs : List Order} {rs : List Reply} → Path makes means h most a d cs rs b e → means e ≡ medium_in b.phase
+    path-means : {a b : Moment} {d e : D} {cs : List Order} {rs : List Reply}
+        → Path makes means h most a d cs rs b e → means e ≡ medium_in b.phase
     path-means (no_calls is) = is
     path-means (first_call s q) = path-means q
 
-    -- what is kept is kept along a path
-    kept-along : {a b : Moment} {d e : D} {cs : List Order} {rs : List Reply} (t : Tally) → Path makes means h most a d cs rs b e → KeepsTally h pairs t a → KeepsTally h pairs (tally_from t cs rs) b
+    -- the tally is kept along a path
+    kept-along : {a b : Moment} {d e : D} {cs : List Order} {rs : List Reply} (t : Tally)
+        → Path makes means h most a d cs rs b e → KeepsTally h pairs t a → KeepsTally h pairs (tally_from t cs rs) b
     kept-along t (no_calls {a = a} is) k = subst (λ u. KeepsTally h pairs u a) (sym (tally-none t [])) k
     kept-along t (first_call {a = a} {m = m} {b = b} {d = d} {c = c} {r = r} {cs = cs} {rs = rs} s q) k =
-        subst (λ u. KeepsTally h pairs u b) (sym (tally-more t c r cs rs)) (kept-along (tally_after t c r) q (kept-next t a.phase a.owed c r m s.does s.fit (bounded-in a.phase d s.means-it) k))
+        subst (λ u. KeepsTally h pairs u b) (sym (tally-more t c r cs rs))
+        (kept-along (tally_after t c r) q (kept-next t a.phase a.owed c r m s.does s.fit
+        (bounded-in a.phase d s.means-it) k))
 
-    module _ {a b : Moment} {d e : D} {cs : List Order} {rs : List Reply} (start : KeepsTally h pairs empty_tally a) (none : Owes None a.phase a.owed) (q : Path makes means h most a d cs rs b e) where
+    module _ {a b : Moment} {d e : D} {cs : List Order} {rs : List Reply} (start : KeepsTally h pairs empty_tally a)
+        (none : Owes None a.phase a.owed) (q : Path makes means h most a d cs rs b e) where
       kept : KeepsTally h pairs (tally cs rs) b
       kept = kept-along empty_tally q start
 
@@ -236,11 +295,14 @@ module _ (h : Rulebook) (most pairs : ℕ) (p : Paired pairs) (c₁ : (h.book_ki
       law = record {
         stands = λ v is e. stands (tally cs rs) v (engine-in (tally cs rs) b kept v is e);
         journal = λ v is e. (engine-in (tally cs rs) b kept v is e).device.journal;
-        open_hand = λ v is. idle-by (tally cs rs) v b.owed v.mode (subst (λ a. KeepsTallyIn h pairs (tally cs rs) a b.owed) is kept);
-        down_hand = λ v is. hand-by (tally cs rs) v b.owed v.mode (subst (λ a. KeepsTallyIn h pairs (tally cs rs) a b.owed) is kept);
+        open_hand = λ v is. idle-by (tally cs rs) v b.owed v.mode
+            (subst (λ a. KeepsTallyIn h pairs (tally cs rs) a b.owed) is kept);
+        down_hand = λ v is. hand-by (tally cs rs) v b.owed v.mode
+            (subst (λ a. KeepsTallyIn h pairs (tally cs rs) a b.owed) is kept);
         slip = slip-in (tally cs rs) (last_known_slip q) b.phase b.owed kept owes;
-        prompt = λ m books is low. enough (tally cs rs) b.phase b.owed kept bounded m books is (omega (arith, p.few, low));
-        verdict = verdict (tally cs rs) (last_known_slip q) b.phase b.owed kept owes bounded;
+        next_open = λ m books is low. enough (tally cs rs) b.phase b.owed kept bounded m books is
+            (omega (arith, p.few, low));
+        next_verdict = verdict (tally cs rs) (last_known_slip q) b.phase b.owed kept owes bounded;
       }
 
       pub also : AlsoHolds h most pairs (tally cs rs) b

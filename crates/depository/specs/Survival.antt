@@ -36,12 +36,13 @@ use Rattle.depository.specs.DeviceUse.{medium_in}
 use Rattle.depository.specs.CallTally.{Tally, tally}
 use Rattle.depository.specs.Paths.{Path, last_known_slip}
 
--- How to read this file: `Survives`, near its end, is what the function `serve` promises. It says
--- `SurvivalLaw` of every run that begins with a format. That law compares the depository with its
--- tally, which is made of the calls and their answers and of nothing else: whoever wrote them down
--- knows what stands.
+-- How to read this file. `Survives`, near its end, is what the function `serve` promises:
+-- `SurvivalLaw` holds of every run, that is, of any calls after a format, with any answers that
+-- they can have. A cut of the power is a close and a restart among these calls. The law compares
+-- the depository with its tally (specs/CallTally): a list of instructions, and what is in hand.
+-- Both follow from the calls and their answers alone, so whoever wrote those down knows what stands.
 
--- calls that are enough to open any device: an open makes at most one for each block
+-- calls that are enough to open any device: an open reads each block at most once
 abbrev pub enough_to_open : ℕ
 enough_to_open = MOST_BLOCKS
 
@@ -87,6 +88,8 @@ pub record JudgesLastSlip (last_slip : Option Contents) (o : OpenReply) (engine 
   pub zero_or_one : (p : Result Verdict Refusal) → o.slip_answer ≡ Some p
       → (presented_number p ≡ 0) ⊎ (presented_number p ≡ 1)
 
+-- Here `h` is the rules, for books of these two kinds; `most_calls` the most calls that a restart
+-- of the device gives; and `pairs` the number of pairs of the journal.
 module _ (h : Rulebook) (most_calls pairs : ℕ) where
   -- The law at one moment of a run. `t` is the tally of the calls up to then. `last_slip` is what
   -- the last known slip tells that a close among them gave, or None if none did.
@@ -106,33 +109,35 @@ module _ (h : Rulebook) (most_calls pairs : ℕ) where
     -- While no engine runs, the last known slip tells the tally.
     pub slip : (medium : Medium) (books : Side → Holdings) → moment.phase ≡ shut medium books
         → SlipTellsTally last_slip t
-    -- If the device then has calls enough left, an open is answered 0,
-    pub prompt : (medium : Medium) (books : Side → Holdings) → moment.phase ≡ shut medium books
+    -- If the device then has calls enough left, an open that comes next is answered 0,
+    pub next_open : (medium : Medium) (books : Side → Holdings) → moment.phase ≡ shut medium books
         → enough_to_open ≤ medium.calls_left
         → (r : Reply) (after : Moment) → LeadsTo h most_calls moment open_order r after
         → IsOpenAccepted r
-    -- and an open that is answered 0 judges that slip, with 0 or 1.
-    pub verdict : (r : Reply) (after : Moment) → LeadsTo h most_calls moment open_order r after
+    -- and an open that comes next and is answered 0 judges that slip: its verdict is 0 or 1.
+    pub next_verdict : (r : Reply) (after : Moment)
+        → LeadsTo h most_calls moment open_order r after
         → (o : OpenReply) → r ≡ ToOpen o → o.answer ≡ Ok tt
         → (engine : View) → after.phase ≡ running engine
         → JudgesLastSlip last_slip o engine
 
-  -- What holds at the same moment besides the law.
+  -- What else holds at that moment.
   pub record AlsoHolds (t : Tally) (moment : Moment) : Type 0 where
-    -- The calls that reading a journal of so many pairs takes at most are enough for an open.
+    -- An open reads a header, and a mark and a record of each pair: with so many calls left it is
+    -- answered 0.
     pub prompt : (medium : Medium) (books : Side → Holdings) → moment.phase ≡ shut medium books
         → 1 + 2 * pairs ≤ medium.calls_left
         → (r : Reply) (after : Moment) → LeadsTo h most_calls moment open_order r after
         → IsOpenAccepted r
-    -- An open is refused only with 13: no calls left.
+    -- An open is refused with 13 only: no calls left.
     pub refused : (r : Reply) (after : Moment) → LeadsTo h most_calls moment open_order r after
         → (o : OpenReply) (f : Fault) → r ≡ ToOpen o → o.answer ≡ Err f
         → number_of f.refusal ≡ 13
-    -- The device keeps the tally as a journal also while no engine runs, or one whose opening was
-    -- refused.
+    -- The device keeps the tally as a journal also while no engine runs, and under an engine whose
+    -- opening was refused.
     pub journal : Journal (blocks_for_books h pairs) (medium_in moment.phase) t.list t.in_hand
 
--- Here `makes` is what the device's kind says of each call, and `means` what a device means.
+-- Here `makes` is what the device's kind says of each device call, and `means` what a device means.
 module _ {D : Type 0} (makes : D → DeviceCall → D → Type 0) (means : D → Medium)
     (h : Rulebook) where
   -- A format of the device d is answered r, and leaves the device e.
@@ -140,7 +145,7 @@ module _ {D : Type 0} (makes : D → DeviceCall → D → Type 0) (means : D →
     pub answer : format_answer pairs (means d) ≡ r
     -- If there is no room for so many pairs, which is refused with 61, nothing was done.
     pub unchanged : no_room pairs (means d).size ≡ true → e ≡ d
-    -- Else a header and no good mark were written, as far as the calls left went,
+    -- Else its blocks were made into an empty journal, as far as the calls left went,
     pub after : no_room pairs (means d).size ≡ false
         → Formats (header_bytes (header_for_books h pairs)) pairs (means d) (means e)
     -- by these calls of the device.

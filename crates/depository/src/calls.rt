@@ -8,10 +8,20 @@ use rulebook::State;
 /// A question to the engine, which changes nothing.
 #[derive(Clone, Copy, Debug, PartialEq, Eq)]
 pub enum Question {
-    /// What an account has of an item of the register.
-    Securities { account: u16, item: u16 },
-    /// What an account has of a currency, which is an item of the cash book.
-    Money { account: u16, currency: u16 },
+    /// What an account has of an item.
+    Securities {
+        /// 0 to 63.
+        account: u16,
+        /// An item of the register, from 0.
+        item: u16,
+    },
+    /// What an account has of a currency.
+    Money {
+        /// 0 to 63.
+        account: u16,
+        /// An item of the cash book, from 0.
+        currency: u16,
+    },
     /// The state of the trade with this number, 0 to 127.
     TradeState(u32),
     /// How many entries stand.
@@ -29,18 +39,22 @@ pub enum Fact {
     Entries(u32),
 }
 
-/// A call of a depository. An instruct, a close and a question want an engine that runs, and a restart
-/// and an open want none: else the call is a misfit, and does nothing.
+/// A call of a depository. An instruct, a close and a question want an engine that runs, and a
+/// restart and an open want none: else the call is a misfit, and does nothing.
 #[derive(Clone, Copy, Debug, PartialEq, Eq)]
 pub enum Call<'a> {
     /// Gives the engine an instruction.
     Instruct(Instruction),
-    /// Closes the engine. If its closing slip is known, the depository owes that one from then on, and
-    /// files the one that it owed before. An unknown slip is filed.
+    /// Closes the engine. If its closing slip is known, the depository owes that one from then on,
+    /// and files the one that it owed before. An unknown slip is filed.
     Close,
-    /// Restarts the device, as after a cut of the power. It then has `calls_left` calls left, or its
-    /// kind's largest number if that is smaller; `remains` matter to what its loose blocks hold.
-    Restart { calls_left: u32, remains: &'a [u8] },
+    /// Restarts the device, as after a cut of the power.
+    Restart {
+        /// How many calls the device has left then, or its kind's largest number if that is smaller.
+        calls_left: u32,
+        /// The bytes by which the device's kind says what its loose blocks hold then.
+        remains: &'a [u8],
+    },
     /// Opens an engine over the device and the books, and presents to it the slip that is owed.
     Open,
     /// Asks the engine a question.
@@ -54,8 +68,8 @@ pub struct OpenReply {
     pub answer: Result<(), Fault>,
     /// How many entries the opening found: 0 if it was refused.
     pub found: u32,
-    /// What the slip that was owed is answered, or `None` if none was owed. If the opening was refused
-    /// this is 41 (`Refusal::OpeningRefused`), and the slip is still owed.
+    /// What the slip that was owed is answered, or `None` if none was owed. If the opening was
+    /// refused this is 41 (`Refusal::OpeningRefused`), and the slip is still owed.
     pub slip_answer: Option<Result<Verdict, Refusal>>,
 }
 

@@ -17,8 +17,8 @@ pub enum Condition<D: PoweredDevice, R: Book, C: Book> {
 /// One powered device with the same register and cash book throughout, from its format on. `serve`
 /// makes one.
 ///
-/// It owes the last known closing slip until an engine judges it, and cannot be dropped while it owes
-/// one: `finish` files it.
+/// It owes the last known closing slip until an engine judges it, and cannot be dropped while it
+/// owes one: `finish` files it.
 #[derive(Drop)]
 pub struct Depository<D: PoweredDevice, R: Book, C: Book> {
     pub(crate) condition: Condition<D, R, C>,

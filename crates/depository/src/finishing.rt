@@ -8,8 +8,8 @@ use device::PoweredDevice;
 use engine::Contents;
 
 impl<D: PoweredDevice, R: Book, C: Book> Depository<D, R, C> {
-    /// Gives back what the depository consists of, and what the slip tells that it still owed, if any.
-    /// That slip is filed.
+    /// Gives back what the depository consists of, and what the slip tells that it still owed, if
+    /// any. That slip is filed.
     pub fn finish(self) -> (Condition<D, R, C>, Option<Contents>)
         ensures condition { result.0 ≡ self.condition }
         ensures slip { result.1 ≡ owed_contents self.owed }

@@ -33,8 +33,8 @@ impl<D: PoweredDevice, R: Book, C: Book> Depository<D, R, C> {
 
     // Gives the calls in order. There is room for their answers.
     //
-    // A call that moves neither device nor books is carried out in place: a depository is large, and
-    // moving it takes longer than most instructions do.
+    // A call that moves neither device nor books is carried out in place: a depository is large,
+    // and moving it takes longer than most instructions do.
     fn run(self, calls: &[Call<'_>], replies: &mut Vec<Reply>) -> Self
         requires room { vec_len replies.old + length calls.now ≤ vec_capacity replies.old }
         requires none { replies.old.items ≡ [] }
@@ -83,21 +83,21 @@ fn format_for<D: Device, R: Book, C: Book>(
     format(device, pairs, register.kind(), cash.kind())
 }
 
-/// Formats a device for these two books, with so many pairs (1 to 32,767) in its journal, and gives
-/// the depository the calls, one after another.
+/// Formats a device for these two books, with so many pairs (1 to 32,767) in its journal, and
+/// gives the depository the calls, one after another.
 ///
-/// `replies` is emptied first, and then holds the answer to each call, in order. The depository comes
-/// back whatever happens; the caller ends it with `Depository::finish`.
+/// `replies` is emptied first, and then holds the answer to each call, in order. The depository
+/// comes back whatever happens; the caller ends it with `Depository::finish`.
 ///
-/// The clause `survives` is the law of survival. The clause `stops` says what is left where no call was
-/// given.
+/// The clause `survives` is the law of survival. The clause `stops` says what is left where no
+/// call was given.
 ///
 /// # Errors
 ///
-/// - `Stop::ByFault` if the format is refused: with 61 if there is no room for so many pairs, or with
-///   13 if the device has too few calls left.
-/// - `Stop::NoMemory` if memory ran out for the answers. It cannot come if `replies` has the capacity
-///   for them already.
+/// - `Stop::ByFault` if the format is refused: with 61 if there is no room for so many pairs, or
+///   with 13 if the device has too few calls left.
+/// - `Stop::NoMemory` if memory ran out for the answers. It cannot come if `replies` has the
+///   capacity for them already.
 pub fn serve<D: PoweredDevice, R: Book, C: Book>(
     mut device: D,
     pairs: u32,

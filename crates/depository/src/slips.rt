@@ -26,8 +26,8 @@ pub(crate) fn newest_known(before: Option<Slip>, given: Slip) -> Option<Slip>
     Some(given)
 }
 
-// Presents the slip that is owed, if there is one. The second result is what is owed then: an engine
-// whose opening was refused gives the slip back.
+// Presents the slip that is owed, if there is one. The second result is what is owed then: an
+// engine whose opening was refused gives the slip back.
 pub(crate) fn present_owed<D: Device, R: Book, C: Book>(
     engine: &Engine<D, R, C>,
     owed: Option<Slip>,

@@ -1,5 +1,5 @@
-// The calls, each as a function. What a depository is made of moves into an engine at an open and out
-// of it at a close. A misfit leaves it as it is.
+// The calls, each as a function. What a depository is made of moves into an engine at an open and
+// out of it at a close. A misfit leaves it as it is.
 ghost use Rattle.std.specs.Prelude.{◌≡◌};
 ghost use Rattle.instruction.specs.Layout.{Fit};
 ghost use Rattle.ledger.specs.View.{rulebook_of};

@@ -18,6 +18,9 @@ returns g c =
     let register : c.kind.result ≡ (h.book_kind securities).code = search rules in
     let money : c.kind-2.result ≡ (h.book_kind cash).code = search rules in
     let answer : c.format.result ≡ format_answer pairs (means before) = assumption e in
-    let after : no_room pairs (means before).size ≡ false → Formats head pairs (means before) (means c.format.new.device) = assumption e in
-    let trace : IsTrace g.D.Device.makes (format_calls head pairs (means before).size (means before).calls_left) before c.format.new.device = assumption e in
-    after-format g.D.Device.makes means h pairs before c.format.new.device c.kind.result c.kind-2.result register money c.format.result answer after trace
+    let after : no_room pairs (means before).size ≡ false
+    → Formats head pairs (means before) (means c.format.new.device) = assumption e in
+    let trace : IsTrace g.D.Device.makes (format_calls head pairs (means before).size
+    (means before).calls_left) before c.format.new.device = assumption e in
+    after-format g.D.Device.makes means h pairs before c.format.new.device c.kind.result c.kind-2.result register
+    money c.format.result answer after trace

@@ -13,7 +13,9 @@ pub loop-call-init : goal.loop-call-init
 loop-call-init g c =
     let a = moment_of c.args.self in
     let d = device_of c.args.self.condition in
-    let start = subst (λ ys. Path g.D.Device.makes g.D.Device.medium (rulebook_of g.R.Book.book_kind g.C.Book.book_kind) g.D.PoweredDevice.most_calls a d [] ys a d) (sym c.requires.none) (no_calls (means-it c.args.self.condition)) in
+    let start = subst (λ ys. Path g.D.Device.makes g.D.Device.medium
+    (rulebook_of g.R.Book.book_kind g.C.Book.book_kind) g.D.PoweredDevice.most_calls a d [] ys a d)
+    (sym c.requires.none) (no_calls (means-it c.args.self.condition)) in
     (search rules, search rules, search rules, start)
 
 -- The call that is made is the next of the list, and its reply goes to the end of the replies.
@@ -39,17 +41,24 @@ loop-call-preserved g c =
             search rules,
             search rules,
             search rules,
-            rw w.depository-is (next-order makes means h most unasked calls n o w.instruct-reply.result c.loop-call-test.true i.3 (ap order next) (fit-of w.in-Instruct.x e.fit) e.does e.device (means-it w.instruct-reply.new.self.condition) answered),
+            rw w.depository-is
+                (next-order makes means h most unasked calls n o w.instruct-reply.result c.loop-call-test.true i.3
+                (ap order next) (fit-of w.in-Instruct.x e.fit) e.does e.device
+                (means-it w.instruct-reply.new.self.condition) answered),
           )
       | in-Restart w ↦
           let e = w.restart-reply.ensures in
           let o : Order = restart_order w.in-Restart.calls_left w.in-Restart.remains.now in
-          let next : get_or calls n unasked ≡ Restart w.in-Restart.calls_left w.in-Restart.remains = assumption (w.in-Restart.is) in
+          let next : get_or calls n unasked ≡ Restart w.in-Restart.calls_left w.in-Restart.remains = assumption
+          (w.in-Restart.is) in
           let answered : new ≡ old ++ (w.restart-reply.result ∷ []) = rw w.reply-is at p.items in (
             search rules,
             search rules,
             search rules,
-            rw w.depository-is (next-order makes means h most unasked calls n o w.restart-reply.result c.loop-call-test.true i.3 (ap order next) (λ x same. absurd cc) e.does e.device (means-it w.restart-reply.new.self.condition) answered),
+            rw w.depository-is
+                (next-order makes means h most unasked calls n o w.restart-reply.result c.loop-call-test.true i.3
+                (ap order next) (λ x same. absurd cc) e.does e.device
+                (means-it w.restart-reply.new.self.condition) answered),
           )
       | in-Ask w ↦
           let o : Order = ask_order w.in-Ask.question in
@@ -58,7 +67,10 @@ loop-call-preserved g c =
             search rules,
             search rules,
             search rules,
-            rw w.depository-is (next-order makes means h most unasked calls n o w.ask-reply.result c.loop-call-test.true i.3 (ap order next) (λ x same. absurd cc) w.ask-reply.ensures (asked-only makes means h most _ _ _) (means-it before) answered),
+            rw w.depository-is
+                (next-order makes means h most unasked calls n o w.ask-reply.result c.loop-call-test.true i.3
+                (ap order next) (λ x same. absurd cc) w.ask-reply.ensures (asked-only makes means h most _ _ _)
+                (means-it before) answered),
           )
       | in-Close w ↦
           let e = w.close-shut.ensures in
@@ -67,7 +79,10 @@ loop-call-preserved g c =
             search rules,
             search rules,
             search rules,
-            rw w.depository-is (next-order makes means h most unasked calls n close_order w.close-shut.result.1 c.loop-call-test.true i.3 (ap order next) (λ x same. absurd cc) e.does e.device (means-it w.close-shut.result.0.condition) answered),
+            rw w.depository-is
+                (next-order makes means h most unasked calls n close_order w.close-shut.result.1
+                c.loop-call-test.true i.3 (ap order next) (λ x same. absurd cc) e.does e.device
+                (means-it w.close-shut.result.0.condition) answered),
           )
       | in-Open w ↦
           let e = w.open-running.ensures in
@@ -76,10 +91,15 @@ loop-call-preserved g c =
             search rules,
             search rules,
             search rules,
-            rw w.depository-is (next-order makes means h most unasked calls n open_order w.open-running.result.1 c.loop-call-test.true i.3 (ap order next) (λ x same. absurd cc) e.does e.device (means-it w.open-running.result.0.condition) answered),
+            rw w.depository-is
+                (next-order makes means h most unasked calls n open_order w.open-running.result.1
+                c.loop-call-test.true i.3 (ap order next) (λ x same. absurd cc) e.does e.device
+                (means-it w.open-running.result.0.condition) answered),
           )
     ]
 
 pub returns-clause-path : goal.returns-clause-path
 returns-clause-path g c =
-    assumption (all-calls g.D.Device.makes g.D.Device.medium (rulebook_of g.R.Book.book_kind g.C.Book.book_kind) g.D.PoweredDevice.most_calls c.args.calls.now c.loop-call.call-index c.loop-call-test.false c.loop-call.invariant.3)
+    assumption (all-calls g.D.Device.makes g.D.Device.medium
+    (rulebook_of g.R.Book.book_kind g.C.Book.book_kind) g.D.PoweredDevice.most_calls c.args.calls.now
+    c.loop-call.call-index c.loop-call-test.false c.loop-call.invariant.3)
