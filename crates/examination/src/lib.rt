@@ -52,10 +52,12 @@ fn replies_to<D: PoweredDevice + Drop, R: Book + Drop, C: Book + Drop>(
 {
     let (depository, served) = serve(device, pairs, register, cash, calls, replies);
     let _ = depository.finish();
-    match served {
-        Ok(()) => Ok(()),
-        Err(Stop::ByFault(fault)) => Err(fault),
-        Err(Stop::NoMemory(_)) => unreachable!(),
+    let Err(stop) = served else {
+        return Ok(());
+    };
+    match stop {
+        Stop::ByFault(fault) => Err(fault),
+        Stop::NoMemory(_) => unreachable!(),
     }
 }
 
