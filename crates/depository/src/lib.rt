@@ -1,7 +1,7 @@
 //! A depository: one powered device with its register and its cash book, from a format on. It is
 //! given calls, among them restarts, which stand for cuts of the power.
 //!
-//! What it promises is the law of survival, the clause `survives` of `serve`: after any calls the
+//! What it promises is the law of survival, the clause `served` of `serve`: after any calls the
 //! next open is answered 0 if calls enough are left, the verdict on the last known slip is 0 or 1,
 //! and what stands is the tally of what was answered. The law stands in specs/Survival.antt.
 //!

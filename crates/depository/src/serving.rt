@@ -1,5 +1,5 @@
 // A depository from its format on.
-ghost use Rattle.std.specs.Prelude.{◌≡◌, ◌+◌, ◌<◌, ◌≤◌, OnErr, OnOk, [], Err, None, length, map, vec_len, vec_capacity, alloc_error};
+ghost use Rattle.std.specs.Prelude.{◌≡◌, ◌+◌, ◌<◌, ◌≤◌, MatchResult, OnErr, [], Err, None, length, map, vec_len, vec_capacity, alloc_error};
 ghost use Rattle.ledger.specs.View.{rulebook_of, both_sides};
 ghost use Rattle.depository.specs.Orders.{order};
 ghost use Rattle.depository.specs.Moments.{shut, moment_in, moment_of};
@@ -89,8 +89,7 @@ fn format_for<D: Device, R: Book, C: Book>(
 /// `replies` is emptied first, and then holds the answer to each call, in order. The depository
 /// comes back whatever happens; the caller ends it with `Depository::finish`.
 ///
-/// The clause `survives` is the law of survival. The clause `stops` says what is left where no
-/// call was given.
+/// The clause `served` is the law of survival, and says what is left where no call was given.
 ///
 /// # Errors
 ///
@@ -106,17 +105,14 @@ pub fn serve<D: PoweredDevice, R: Book, C: Book>(
     calls: &[Call<'_>],
     replies: &mut Vec<Reply>,
 ) -> (Depository<D, R, C>, Result<(), Stop>)
-    ensures survives { OnOk result.1
-        (Survives D.makes D.Device.medium
-        (rulebook_of R.book_kind C.book_kind) D.PoweredDevice.most_calls pairs
-        device (both_sides (R.holdings register) (C.holdings cash))
+    ensures served { let h = rulebook_of R.book_kind C.book_kind in
+        let books = both_sides (R.holdings register) (C.holdings cash) in
+        MatchResult result.1
+        (λ _. Survives D.makes D.Device.medium h D.PoweredDevice.most_calls pairs device books
         (map order calls.now) replies.new.items
+        (moment_of result.0) (device_of result.0.condition))
+        (λ stop. GivesNoCalls D.makes D.Device.medium h pairs device books stop
         (moment_of result.0) (device_of result.0.condition)) }
-    ensures stops { (stop : Stop) → result.1 ≡ Err stop
-        → GivesNoCalls D.makes D.Device.medium
-        (rulebook_of R.book_kind C.book_kind) pairs
-        device (both_sides (R.holdings register) (C.holdings cash)) stop
-        (moment_of result.0) (device_of result.0.condition) }
     ensures memory { result.1 ≡ Err (NoMemory alloc_error)
         → vec_capacity replies.old < length calls.now }
     ensures no_replies { OnErr result.1 (replies.new.items ≡ []) }

@@ -3,8 +3,8 @@ use Rattle.ledger.specs.View.{rulebook_of, both_sides}
 use Rattle.depository.proofs.Starts.{served}
 use Rattle.depository.proofs.serving.serve.Goals as goal
 
-pub returns-clause-survives : goal.returns-clause-survives
-returns-clause-survives g c =
+pub returns-clause-served : goal.returns-clause-served
+returns-clause-served g c =
     let books = both_sides (g.R.Book.holdings c.args.register) (g.C.Book.holdings c.args.cash) in
     assumption (served g.D.Device.makes g.D.Device.medium
     (rulebook_of g.R.Book.book_kind g.C.Book.book_kind) g.D.PoweredDevice.most_calls c.args.pairs c.args.device
