@@ -52,12 +52,10 @@ fn replies_to<D: PoweredDevice + Drop, R: Book + Drop, C: Book + Drop>(
 {
     let (depository, served) = serve(device, pairs, register, cash, calls, replies);
     let _ = depository.finish();
-    let Err(stop) = served else {
-        return Ok(());
-    };
-    match stop {
-        Stop::ByFault(fault) => Err(fault),
-        Stop::NoMemory(_) => unreachable!(),
+    match served {
+        Ok(()) => Ok(()),
+        Err(Stop::ByFault(fault)) => Err(fault),
+        Err(Stop::NoMemory(_)) => unreachable!(),
     }
 }
 
