@@ -496,7 +496,7 @@ impl Maker {
         Call { fields, ..Call::of(action) }
     }
 
-    /// Changes some of the fields of a call to a book, so that more than one test may apply.
+    /// Changes some of the fields of a call to a book, so that more than one check may apply.
     fn spoil(&mut self, fields: &mut Instruction) {
         if self.rng.chance(50) {
             fields.account = self.boundary() as u16;

@@ -63,7 +63,7 @@ pub trait Book {
         Ok(())
     }
 
-    /// The tests of an account and an item: 21, 22.
+    /// The checks of an account and an item: 21, 22.
     fn check_cell(&self, account: u16, item: u16) -> Result<(), Refusal> {
         check_account(account)?;
         if item >= self.items() {
@@ -72,7 +72,7 @@ pub trait Book {
         Ok(())
     }
 
-    /// The tests that all changes share: 21, 22, 23.
+    /// The checks that all changes share: 21, 22, 23.
     fn check(&self, account: u16, item: u16, quantity: u64) -> Result<(), Refusal> {
         self.check_cell(account, item)?;
         if quantity == 0 {

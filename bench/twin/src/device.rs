@@ -22,7 +22,7 @@ pub trait PoweredDevice: Device {
     fn restart(&mut self, calls: u32, remains: &[u8]);
 }
 
-/// What both devices are made of: an image in rows of one length, and the calls left; with the tests that they share.
+/// What both devices are made of: an image in rows of one length, and the calls left; with the checks that they share.
 #[derive(Clone, Debug)]
 struct Rows<const ROW: usize> {
     image: Vec<u8>,
@@ -40,7 +40,7 @@ impl<const ROW: usize> Rows<ROW> {
         &mut self.image[row * ROW..(row + 1) * ROW]
     }
 
-    /// Tests a call of a block, and spends it if it may be made. Gives the number of the block's row.
+    /// Checks a call of a block, and spends it if it may be made. Gives the number of the block's row.
     fn spend_on(&mut self, block: u32, length: usize) -> Result<usize, Fault> {
         let fault = |refusal: Refusal| Err(Fault::from(refusal).at_block(block));
         let row = block as usize;

@@ -122,7 +122,7 @@ impl<D: Device, R: Book, C: Book> Engine<D, R, C> {
         self.ledger.carry_out(x)
     }
 
-    /// The tests of an instruct before its first call of the device: 41, 42, the rules' own, 36.
+    /// The checks of an instruct before its first call of the device: 41, 42, the rules' own, 36.
     fn accepts(&self, x: &Instruction) -> Result<(), Fault> {
         self.answers()?;
         if let State::Down(_) = self.state {

@@ -7,7 +7,7 @@ use Rattle.book.specs.Holdings.{nothing}
 use Rattle.book.proofs.Same.{holdings-same}
 use Rattle.book.proofs.Sums.{sum_below-zero}
 use Rattle.book.specs.Rulings.{no_holding}
-use Rattle.balances.specs.Rows.{holding_in, amounts, IsWholeTable, WithinCeiling}
+use Rattle.balances.specs.Rows.{holding_in, amounts, IsWholeTable, KeepsCeiling}
 
 abbrev pub fresh : List (List Holding)
 fresh = replicate 16 (replicate 64 no_holding)
@@ -19,14 +19,21 @@ get_or-all n i x =
 
 at-fresh : (a i : ℕ) → holding_in fresh a i ≡ no_holding
 at-fresh a i =
-    ⊎_elim (λ l. ap (λ r. get_or r a no_holding) (get_or-replicate 16 i (replicate 64 no_holding) [] l) ∙ get_or-all 64 a no_holding)
-    (λ past. ap (λ r. get_or r a no_holding) (get_or_past fresh i [] (omega (arith, length-replicate 16 (replicate 64 no_holding))))) (cases_lt i 16)
+    ⊎_elim (λ l. ap (λ r. get_or r a no_holding) (get_or-replicate 16 i (replicate 64 no_holding) [] l)
+    ∙ get_or-all 64 a no_holding)
+    (λ past. ap (λ r. get_or r a no_holding) (get_or_past fresh i []
+    (omega (arith, length-replicate 16 (replicate 64 no_holding))))) (cases_lt i 16)
 
 pub fresh-nothing : amounts fresh ≡ nothing
-fresh-nothing = holdings-same (amounts fresh) nothing (λ a i. ap (λ h. h.free) (at-fresh a i)) (λ a i. ap (λ h. h.blocked) (at-fresh a i))
+fresh-nothing = holdings-same (amounts fresh) nothing (λ a i. ap (λ h. h.free) (at-fresh a i))
+    (λ a i. ap (λ h. h.blocked) (at-fresh a i))
 
 pub fresh-full : IsWholeTable fresh
-fresh-full = (length-replicate 16 (replicate 64 no_holding), λ i l. ap length (get_or-replicate 16 i (replicate 64 no_holding) [] l) ∙ length-replicate 64 no_holding)
+fresh-full = (
+  length-replicate 16 (replicate 64 no_holding),
+  λ i l. ap length
+      (get_or-replicate 16 i (replicate 64 no_holding) [] l) ∙ length-replicate 64 no_holding,
+)
 
-pub fresh-within : WithinCeiling fresh
+pub fresh-within : KeepsCeiling fresh
 fresh-within i = omega (arith, sum_below-zero 64 _ (λ a. ap (λ h. h.free + h.blocked) (at-fresh a i)))

@@ -7,7 +7,7 @@ use Rattle.book.specs.declared.Holding.{Holding}
 use Rattle.book.specs.Sums.{is_place}
 use Rattle.book.specs.Holdings.{Holdings, apply, crediting, blocking, less_at}
 use Rattle.book.proofs.Same.{holdings-same}
-use Rattle.book.proofs.Change.{kept-at, raised-at, lowered-at}
+use Rattle.book.proofs.Change.{same-there, more-there, less-there}
 use Rattle.book.specs.Rulings.{no_holding}
 use Rattle.balances.specs.Rows.{holding_in, amounts, IsWholeTable}
 
@@ -37,7 +37,8 @@ module _ (rows : List (List Holding)) (A I : ℕ) (h : Holding) (li : I < length
         (λ ne. ap length (other-row i ne) ∙ full.1 i l) (cases_eq i I),
   )
 
-  pub at-put : A < length (slice_index_or rows I []) → (a i : ℕ) → holding_in (put rows A I h) a i ≡ cond (is_place A I a i) h (holding_in rows a i)
+  pub at-put : A < length (slice_index_or rows I []) → (a i : ℕ)
+      → holding_in (put rows A I h) a i ≡ cond (is_place A I a i) h (holding_in rows a i)
   at-put la a i =
       ⊎_elim
       (λ e. let row = ap (λ r. get_or r a no_holding) (same-row i e) in
@@ -61,22 +62,31 @@ module _ (rows : List (List Holding)) (A I : ℕ) (h : Holding) (li : I < length
       (λ a i. ap (λ g. g.free) (at-put la a i) ∙ free-of (is_place A I a i) h (holding_in rows a i) ∙ p a i)
       (λ a i. ap (λ g. g.blocked) (at-put la a i) ∙ blocked-of (is_place A I a i) h (holding_in rows a i) ∙ q a i)
 
-module _ (rows : List (List Holding)) (A I q : ℕ) (li : I < length rows) (la : A < length (slice_index_or rows I [])) where
+module _ (rows : List (List Holding)) (A I q : ℕ) (li : I < length rows)
+    (la : A < length (slice_index_or rows I [])) where
   f : ℕ → ℕ → ℕ
   f = (amounts rows).free
 
   g : ℕ → ℕ → ℕ
   g = (amounts rows).blocked
 
-  pub put-credit : amounts (put rows A I (record { free = (holding_in rows A I).free + q; blocked = (holding_in rows A I).blocked })) ≡ apply (amounts rows) (crediting A I q)
+  pub put-credit : amounts (put rows A I
+      (record { free = (holding_in rows A I).free + q; blocked = (holding_in rows A I).blocked })) ≡ apply
+      (amounts rows) (crediting A I q)
   unfolding f g
-  put-credit = amounts-put rows A I _ li la _ (raised-at f A I q) (kept-at g A I q)
+  put-credit = amounts-put rows A I _ li la _ (more-there f A I q) (same-there g A I q)
 
-  pub put-block : amounts (put rows A I (record { free = (holding_in rows A I).free - q; blocked = (holding_in rows A I).blocked + q })) ≡ apply (amounts rows) (blocking A I q)
+  pub put-block : amounts (put rows A I
+      (record { free = (holding_in rows A I).free - q; blocked = (holding_in rows A I).blocked + q })) ≡ apply
+      (amounts rows) (blocking A I q)
   unfolding f g
-  put-block = amounts-put rows A I _ li la _ (lowered-at f A I q) (raised-at g A I q)
+  put-block = amounts-put rows A I _ li la _ (less-there f A I q) (more-there g A I q)
 
   -- the first half of a transfer
-  pub put-lower : amounts (put rows A I (record { free = (holding_in rows A I).free; blocked = (holding_in rows A I).blocked - q })) ≡ record { free = (amounts rows).free; blocked = less_at (amounts rows).blocked A I q }
+  pub put-lower : amounts (put rows A I
+      (record { free = (holding_in rows A I).free; blocked = (holding_in rows A I).blocked - q })) ≡ record {
+        free = (amounts rows).free;
+        blocked = less_at (amounts rows).blocked A I q;
+      }
   unfolding f g
-  put-lower = amounts-put rows A I _ li la _ (kept-at f A I q) (lowered-at g A I q)
+  put-lower = amounts-put rows A I _ li la _ (same-there f A I q) (less-there g A I q)

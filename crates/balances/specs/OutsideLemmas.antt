@@ -14,7 +14,7 @@ pub nothing-outside : (rows : List (List Holding)) → IsWholeTable rows → (a 
 nothing-outside rows whole a i out =
     ⊎_elim
     (λ l. get_or_past (slice_index_or rows i []) a no_holding
-    (⊎_elim (λ (p : 64 ≤ a). omega (arith, whole.1 i l)) (λ (p : 16 ≤ i). omega arith) out))
+    (⊎_elim (λ (p : ACCOUNTS ≤ a). omega (arith, whole.1 i l)) (λ (p : ITEMS ≤ i). omega arith) out))
     (λ past. let none = get_or_past rows i [] (omega (arith, whole.0)) in
     ap (λ r. slice_index_or r a no_holding) none)
-    (cases_lt i 16)
+    (cases_lt i ITEMS)

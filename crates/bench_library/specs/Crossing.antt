@@ -144,7 +144,7 @@ with_hand row (Some x) = record {
   hand = fields_of x;
 }
 
--- what a slip holds: whether it is known, how many entries, and the instruction in hand, if any
+-- what a slip holds: 1 and how many entries if it is known, and what is in hand
 abbrev pub slip_row : Option Contents → AnswerRow
 slip_row None = values_row 0 0
 slip_row (Some c) = with_hand (values_row 1 c.entries) c.hand

@@ -25,8 +25,8 @@ abbrev pub is_listed : Setup → Bool
 is_listed s = (s.device == 0 || s.device == 1) && are_books s.register s.cash
 
 -- What was lent, before and after a call that answers `status`, where the kinds are listed or not.
-pub record CarriesOut (listed : Bool) (image image' bytes bytes' : List ℕ) (answers answers' : List AnswerRow)
-    (status : ℕ) : Type 0 where
+pub record CarriesOut (listed : Bool) (image image' bytes bytes' : List ℕ)
+    (answers answers' : List AnswerRow) (status : ℕ) : Type 0 where
   pub range : status ≤ 3
   pub unlisted : (status ≡ 2) ↔ (listed ≡ false)
   -- memory is taken for a copy of the image alone

@@ -1,5 +1,5 @@
 pub mod Sums
-pub mod Asked
+pub mod Questions
 pub mod Same
 pub mod Totals
 pub mod Accepted

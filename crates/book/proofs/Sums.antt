@@ -9,7 +9,8 @@ sum_below-same zero f g h = refl
 sum_below-same (suc n) f g h = omega (arith, sum_below-same n f g (λ k l. h k (omega arith)), h n (omega arith))
 
 -- one term may differ
-pub sum_below-change : (n t : ℕ) (f g : ℕ → ℕ) → t < n → ((k : ℕ) → (k ≡ t → ⊥) → f k ≡ g k) → sum_below n g + f t ≡ sum_below n f + g t
+pub sum_below-change : (n t : ℕ) (f g : ℕ → ℕ) → t < n → ((k : ℕ) → (k ≡ t → ⊥) → f k ≡ g k)
+    → sum_below n g + f t ≡ sum_below n f + g t
 unfolding sum_below
 sum_below-change zero t f g l h = omega arith
 sum_below-change (suc n) t f g l h =
@@ -48,5 +49,6 @@ pub sum_below-next-le : (n k : ℕ) (f : ℕ → ℕ) → k < n → sum_below k 
 unfolding sum_below
 sum_below-next-le zero k f l = omega arith
 sum_below-next-le (suc n) k f l =
-    ⊎_elim (λ (e : n ≡ k). let p : sum_below n f ≡ sum_below k f = ap (λ m. sum_below m f) e in let q : f n ≡ f k = ap f e in omega arith)
+    ⊎_elim (λ (e : n ≡ k). let p : sum_below n f ≡ sum_below k f = ap
+    (λ m. sum_below m f) e in let q : f n ≡ f k = ap f e in omega arith)
     (λ ne. omega (arith, sum_below-next-le n k f (omega arith))) (cases_eq n k)

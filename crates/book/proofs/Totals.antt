@@ -15,25 +15,32 @@ enough f A I q a i l =
     rw e (omega arith))
     (λ e. rw e (omega arith)) (cases_Bool (is_place A I a i))
 
-pub sum_below-only : (n A I i q : ℕ) → A < n → sum_below n (λ a. amount_if (is_place A I a i) q) ≡ amount_if (eqb I i) q
+pub sum_below-only : (n A I i q : ℕ) → A < n → sum_below n (λ a. amount_if (is_place A I a i) q) ≡ amount_if
+    (eqb I i) q
 sum_below-only n A I i q l =
-    let m = sum_below-change n A (λ a. 0) (λ a. amount_if (is_place A I a i) q) l (λ k ne. let z = ne_eqb A k (λ w. ne (sym w)) in rw z) in
+    let m = sum_below-change n A (λ a. 0) (λ a. amount_if (is_place A I a i) q) l
+    (λ k ne. let z = ne_eqb A k (λ w. ne (sym w)) in rw z) in
     let z = sum_below-zero n (λ a. 0) (λ k. refl) in
-    let g : amount_if (is_place A I A i) q ≡ amount_if (eqb I i) q = ap (λ v. amount_if (v && eqb I i) q) (eq-eqb A A refl) in
+    let g : amount_if (is_place A I A i) q ≡ amount_if (eqb I i) q = ap (λ v. amount_if (v && eqb I i) q)
+    (eq-eqb A A refl) in
     omega arith
 
 -- one account has all there is
 pub sum_below-sole : (n A q : ℕ) → A < n → sum_below n (λ a. amount_if (eqb A a) q) ≡ q
 sum_below-sole n A q l =
-    let m = sum_below-change n A (λ a. 0) (λ a. amount_if (eqb A a) q) l (λ k ne. let z = ne_eqb A k (λ w. ne (sym w)) in rw z) in
+    let m = sum_below-change n A (λ a. 0) (λ a. amount_if (eqb A a) q) l
+    (λ k ne. let z = ne_eqb A k (λ w. ne (sym w)) in rw z) in
     let z = sum_below-zero n (λ a. 0) (λ k. refl) in
     let g : amount_if (eqb A A) q ≡ q = ap (λ t. amount_if t q) (eq-eqb A A refl) in
     omega arith
 
 -- all amounts change by m down and p up
-pub total-step : (b c : Holdings) (i : ℕ) (m p : ℕ → ℕ) → ((a : ℕ) → c.free a i + c.blocked a i + m a ≡ b.free a i + b.blocked a i + p a) → total c i + sum_below 64 m ≡ total b i + sum_below 64 p
+pub total-step : (b c : Holdings) (i : ℕ) (m p : ℕ → ℕ)
+    → ((a : ℕ) → c.free a i + c.blocked a i + m a ≡ b.free a i + b.blocked a i + p a)
+    → total c i + sum_below 64 m ≡ total b i + sum_below 64 p
 total-step b c i m p h =
-    sym (sum_below-plus 64 (λ a. c.free a i + c.blocked a i) m) ∙ sum_below-same 64 _ _ (λ a l. h a) ∙ sum_below-plus 64 (λ a. b.free a i + b.blocked a i) p
+    sym (sum_below-plus 64 (λ a. c.free a i + c.blocked a i) m) ∙ sum_below-same 64 _ _ (λ a l. h a)
+    ∙ sum_below-plus 64 (λ a. b.free a i + b.blocked a i) p
 
 -- an account's amounts are within the item's total
 pub amount-le-total : (b : Holdings) (a i : ℕ) → a < 64 → b.free a i + b.blocked a i ≤ total b i
@@ -42,7 +49,8 @@ amount-le-total b a i l = sum_below-le 64 a (λ a. b.free a i + b.blocked a i) l
 module _ (b : Holdings) (A I q i : ℕ) where
   pub total-credit : A < 64 → total (apply b (crediting A I q)) i ≡ total b i + amount_if (eqb I i) q
   total-credit l =
-      let t = total-step b (apply b (crediting A I q)) i (λ a. 0) (λ a. amount_if (is_place A I a i) q) (λ a. omega arith) in
+      let t = total-step b (apply b (crediting A I q)) i (λ a. 0) (λ a. amount_if (is_place A I a i) q)
+      (λ a. omega arith) in
       omega (arith, t, sum_below-zero 64 (λ a. 0) (λ k. refl), sum_below-only 64 A I i q l)
 
   pub total-block : q ≤ b.free A I → total (apply b (blocking A I q)) i ≡ total b i
@@ -53,11 +61,13 @@ module _ (b : Holdings) (A I q i : ℕ) where
 
   pub total-move : (B : ℕ) → A < 64 → B < 64 → q ≤ b.blocked A I → total (apply b (moving A B I q)) i ≡ total b i
   total-move B la lb l =
-      let t = total-step b (apply b (moving A B I q)) i (λ a. amount_if (is_place A I a i) q) (λ a. amount_if (is_place B I a i) q) (λ a. omega (arith, enough b.blocked A I q a i l)) in
+      let t = total-step b (apply b (moving A B I q)) i (λ a. amount_if (is_place A I a i) q)
+      (λ a. amount_if (is_place B I a i) q) (λ a. omega (arith, enough b.blocked A I q a i l)) in
       omega (arith, t, sum_below-only 64 A I i q la, sum_below-only 64 B I i q lb)
 
   -- a credit that passed its check keeps every total
-  pub credit-below : (top : ℕ) → A < 64 → total b I + q ≤ top → total b i ≤ top → total (apply b (crediting A I q)) i ≤ top
+  pub credit-below : (top : ℕ) → A < 64 → total b I + q ≤ top → total b i ≤ top
+      → total (apply b (crediting A I q)) i ≤ top
   credit-below top l h k =
       ⊎_elim (λ (e : eqb I i ≡ true).
       let w : total b I ≡ total b i = ap (total b) (eqb-true I i e) in

@@ -1,22 +1,22 @@
-// Fills the journal, sees what comes after, and opens it again.
+//! Fills the journal, gives one instruction more, and opens the journal again.
+
 use balances::Balances;
 use book::Book;
-use device::PoweredDevice;
+use device::{MOST_BLOCKS, MOST_CALLS, PoweredDevice};
 use engine::Engine;
 use instruction::{Instruction, Kind};
-use journal::format;
+use journal::{MOST_PAIRS, format};
 use refusals::fault_number;
 use simulated::Simulated;
 use std::io;
 
-// As many pairs as a journal can have: with the header they take 65,535 blocks.
-const PAIRS: u32 = 32_767;
+// An image of as many blocks as a device can have, which a header and `MOST_PAIRS` pairs fill. A row
+// of a simulated device has 514 bytes.
+const IMAGE_LENGTH: usize = MOST_BLOCKS * 514;
 
-const IMAGE: usize = 65_535 * 514;
+type OpenEngine = Engine<Simulated, Balances, Balances>;
 
-type Opened = Engine<Simulated, Balances, Balances>;
-
-// Each entry issues one more than the one before, so that the total tells which of them stand.
+// Each entry issues one more than the one before, so that the total shows which of them stand.
 fn issue(quantity: u32) -> Instruction {
     Instruction {
         quantity: quantity.into(),
@@ -24,25 +24,26 @@ fn issue(quantity: u32) -> Instruction {
     }
 }
 
-// Gives instructions until one is refused, and no more than there are pairs; answers how many were accepted.
-fn fill(engine: &mut Opened) -> u32 {
-    for entry in 0..PAIRS {
+// Gives instructions until one is refused, at most one for each pair, and returns how many were
+// accepted.
+fn fill(engine: &mut OpenEngine) -> u32 {
+    for entry in 0..MOST_PAIRS {
         if engine.instruct(&issue(entry + 1)).is_err() {
             return entry;
         }
     }
-    PAIRS
+    MOST_PAIRS
 }
 
-// What an engine found when it was opened, and what it has now.
-fn tell(rt: &HostRuntime, engine: &Opened) -> io::Result<()> {
+// Prints what an opening found, and what the engine has.
+fn print_opening(rt: &HostRuntime, engine: &OpenEngine) -> io::Result<()> {
     let answer = fault_number(engine.opening());
     let found = engine.found();
     println!(rt; "open: {answer}, {found} entries found")?;
-    tell_amounts(rt, engine)
+    print_amounts(rt, engine)
 }
 
-fn tell_amounts(rt: &HostRuntime, engine: &Opened) -> io::Result<()> {
+fn print_amounts(rt: &HostRuntime, engine: &OpenEngine) -> io::Result<()> {
     match (engine.entries(), engine.securities(0, 0)) {
         (Ok(entries), Ok(holding)) => {
             println!(rt;
@@ -55,10 +56,10 @@ fn tell_amounts(rt: &HostRuntime, engine: &Opened) -> io::Result<()> {
     Ok(())
 }
 
-// Closes, cuts the power, opens again and presents the slip.
-fn reopen(rt: &HostRuntime, engine: Opened) -> io::Result<()> {
+// Closes the engine, cuts the power, opens the device again and presents the slip.
+fn reopen(rt: &HostRuntime, engine: OpenEngine) -> io::Result<()> {
     let (mut device, register, cash, slip) = engine.close();
-    device.restart(u32::MAX, &[]);
+    device.restart(MOST_CALLS, &[]);
     let engine = Engine::open(device, register, cash);
     let verdict = match engine.present(slip) {
         Ok(verdict) => verdict.number(),
@@ -68,22 +69,22 @@ fn reopen(rt: &HostRuntime, engine: Opened) -> io::Result<()> {
         }
     };
     println!(rt; "closed, restarted and opened again: verdict {verdict}")?;
-    tell(rt, &engine)
+    print_opening(rt, &engine)
 }
 
 pub(crate) fn run(rt: &HostRuntime) -> io::Result<()> {
-    let image = vec![in rt.alloc(); 0u8; IMAGE]?;
-    let mut device = Simulated::new(image, u32::MAX);
+    let image = vec![in rt.alloc(); 0u8; IMAGE_LENGTH]?;
+    let mut device = Simulated::new(image, MOST_CALLS);
     let register = Balances::new();
     let cash = Balances::new();
-    let formatted = fault_number(format(&mut device, PAIRS, register.kind(), cash.kind()));
+    let formatted = fault_number(format(&mut device, MOST_PAIRS, register.kind(), cash.kind()));
     println!(rt; "format: {formatted}")?;
     let mut engine = Engine::open(device, register, cash);
-    tell(rt, &engine)?;
+    print_opening(rt, &engine)?;
     let accepted = fill(&mut engine);
     println!(rt; "{accepted} instructions answered 0")?;
     let next = fault_number(engine.instruct(&issue(1)));
     println!(rt; "one more: {next}")?;
-    tell_amounts(rt, &engine)?;
+    print_amounts(rt, &engine)?;
     reopen(rt, engine)
 }

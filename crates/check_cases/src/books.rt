@@ -1,17 +1,19 @@
-// The changes and the questions of both books, with each number at 0, at its largest and one past.
+//! The changes and the questions of both books, with each number at 0, at its largest value and one
+//! past it.
+
+use crate::headings::Source;
+use crate::tables::ACCOUNTS;
 use balances::Balances;
 use book::Book;
 use lots::Lots;
 use refusals::{Refusal, answer_number};
 use std::fmt;
 
-const ACCOUNTS: [u16; 4] = [0, 63, 64, 65535];
-
-// The answer to a question as it is told: its number, and the amount or 0.
+// The answer to a question: its number, and the amount or 0.
 #[derive(Clone, Copy)]
-struct Told(Result<u64, Refusal>);
+struct Amount(Result<u64, Refusal>);
 
-impl fmt::Display for Told {
+impl fmt::Display for Amount {
     fn fmt<W: fmt::Write>(&self, f: &mut fmt::Formatter<W>) -> fmt::Result {
         match self.0 {
             Ok(amount) => write!(f, "0 {amount}"),
@@ -22,8 +24,8 @@ impl fmt::Display for Told {
 
 // The questions of one account and item.
 fn ask<B: Book>(rt: &HostRuntime, book: &B, account: u16, item: u16) -> anyhow::Result<()> {
-    let free = Told(book.free(account, item));
-    let blocked = Told(book.blocked(account, item));
+    let free = Amount(book.free(account, item));
+    let blocked = Amount(book.blocked(account, item));
     println!(rt; "  free {free} blocked {blocked}")?;
     Ok(())
 }
@@ -41,12 +43,13 @@ fn change<B: Book>(
     let release = answer_number(book.release(account, item, quantity));
     let again = answer_number(book.block(account, item, quantity));
     println!(rt;
-        "  {account} {item} {quantity}: credit {credit} block {block} release {release} block {again}"
+        "  {account} {item} {quantity}: credit {credit} block {block} release {release} \
+         block {again}"
     )?;
     ask(rt, book, account, item)
 }
 
-fn give<B: Book>(
+fn transfer<B: Book>(
     rt: &HostRuntime,
     book: &mut B,
     from: u16,
@@ -71,7 +74,7 @@ fn changes<B: Book>(rt: &HostRuntime, book: &mut B, item: u16) -> anyhow::Result
     }
     for from in ACCOUNTS {
         for to in ACCOUNTS {
-            give(rt, book, from, to, item)?;
+            transfer(rt, book, from, to, item)?;
         }
     }
     Ok(())
@@ -81,7 +84,10 @@ fn all<B: Book>(rt: &HostRuntime, name: &str, book: &mut B) -> anyhow::Result<()
     let items = book.items();
     let kind = book.kind();
     let ceiling = book.ceiling();
-    println!(rt; "{name}: kind {kind}, {items} items, ceiling {ceiling}")?;
+    println!(rt;
+        "{name}: kind {kind}, {items} items, ceiling {ceiling} ({})",
+        Source::Twin
+    )?;
     changes(rt, book, 0)?;
     changes(rt, book, items.saturating_sub(1))?;
     changes(rt, book, items)?;

@@ -1,4 +1,6 @@
-// Instructions, those that no script can state among them, and strings of bytes.
+//! Instructions, among them those that no script can state, and strings of bytes.
+
+use crate::headings::Source;
 use balances::Balances;
 use book::Book;
 use instruction::{Instruction, Kind};
@@ -44,7 +46,7 @@ fn unknown(kind: u8) -> Instruction {
     }
 }
 
-// Kinds that are none, each with a field that is not 0: the kind is checked first.
+// Kind bytes that no kind has, two of them with a field that is not 0: the kind is checked first.
 fn kinds<R: Book, C: Book>(rt: &HostRuntime, ledger: &mut Ledger<R, C>) -> anyhow::Result<()> {
     let with_trade = Instruction {
         trade: 1,
@@ -65,7 +67,7 @@ fn kinds<R: Book, C: Book>(rt: &HostRuntime, ledger: &mut Ledger<R, C>) -> anyho
     )
 }
 
-// One field too many for each kind that brings something in.
+// One field too many, for the kinds that credit an account.
 fn stray_credits<R: Book, C: Book>(
     rt: &HostRuntime,
     ledger: &mut Ledger<R, C>,
@@ -94,7 +96,7 @@ fn stray_credits<R: Book, C: Book>(
     )
 }
 
-// One field too many for each kind that names a trade only.
+// One field too many, for the kinds that use a trade alone.
 fn stray_trades<R: Book, C: Book>(
     rt: &HostRuntime,
     ledger: &mut Ledger<R, C>,
@@ -128,7 +130,7 @@ fn stray_trades<R: Book, C: Book>(
 }
 
 // An instruction about the last trade that there is.
-fn on_last(kind: Kind) -> Instruction {
+fn on_last_trade(kind: Kind) -> Instruction {
     Instruction::on_trade(kind, 127)
 }
 
@@ -149,7 +151,7 @@ fn settlement<R: Book, C: Book>(rt: &HostRuntime, ledger: &mut Ledger<R, C>) -> 
         counterparty: 2,
         quantity: 1,
         amount: 1,
-        ..on_last(Kind::Enter)
+        ..on_last_trade(Kind::Enter)
     };
     give_all(
         rt,
@@ -157,20 +159,21 @@ fn settlement<R: Book, C: Book>(rt: &HostRuntime, ledger: &mut Ledger<R, C>) -> 
         &[
             ("Issue", issue),
             ("Pay in", pay_in),
-            ("Earmark before Enter", on_last(Kind::Earmark)),
+            ("Earmark before Enter", on_last_trade(Kind::Earmark)),
             ("Enter", enter),
             ("Enter again", enter),
-            ("Settle before Earmark", on_last(Kind::Settle)),
-            ("Earmark", on_last(Kind::Earmark)),
-            ("Settle before Fund", on_last(Kind::Settle)),
-            ("Fund", on_last(Kind::Fund)),
-            ("Settle", on_last(Kind::Settle)),
-            ("Free after Settle", on_last(Kind::Free)),
+            ("Settle before Earmark", on_last_trade(Kind::Settle)),
+            ("Earmark", on_last_trade(Kind::Earmark)),
+            ("Settle before Fund", on_last_trade(Kind::Settle)),
+            ("Fund", on_last_trade(Kind::Fund)),
+            ("Settle", on_last_trade(Kind::Settle)),
+            ("Free after Settle", on_last_trade(Kind::Free)),
         ],
     )
 }
 
-// A trade's state is told by its place in the rules' table, from 0.
+// A trade's state is printed as its place in the list of states, from 0 (never entered) to 5
+// (freed).
 fn states<R: Book, C: Book>(rt: &HostRuntime, ledger: &Ledger<R, C>) -> anyhow::Result<()> {
     for trade in [0, 127, 128, u32::MAX] {
         let answer = match ledger.trade_state(trade) {
@@ -187,7 +190,7 @@ fn all<R: Book, C: Book>(
     name: &str,
     ledger: &mut Ledger<R, C>,
 ) -> anyhow::Result<()> {
-    println!(rt; "{name}")?;
+    println!(rt; "{name} ({})", Source::Hand)?;
     kinds(rt, ledger)?;
     stray_credits(rt, ledger)?;
     stray_trades(rt, ledger)?;
@@ -195,7 +198,7 @@ fn all<R: Book, C: Book>(
     states(rt, ledger)
 }
 
-fn tell(rt: &HostRuntime, read: Result<Instruction, Refusal>) -> anyhow::Result<()> {
+fn print_read(rt: &HostRuntime, read: Result<Instruction, Refusal>) -> anyhow::Result<()> {
     match read {
         Ok(x) => {
             print!(rt; "{} {} {} {} ", x.kind, x.account, x.counterparty, x.item)?;
@@ -209,7 +212,7 @@ fn tell(rt: &HostRuntime, read: Result<Instruction, Refusal>) -> anyhow::Result<
     Ok(())
 }
 
-// What so many bytes are, where the byte at one place is 1 and the others are 0.
+// Reads `count` bytes as an instruction: the byte at `place` is 1 and the others are 0.
 fn read(rt: &HostRuntime, count: usize, place: usize) -> anyhow::Result<()> {
     let mut bytes = [0u8; 33];
     if let Some(byte) = bytes.get_mut(place) {
@@ -219,7 +222,7 @@ fn read(rt: &HostRuntime, count: usize, place: usize) -> anyhow::Result<()> {
         return Ok(());
     };
     print!(rt; "  {count} bytes, byte {place} at 1: ")?;
-    tell(rt, Instruction::from_bytes(given))
+    print_read(rt, Instruction::from_bytes(given))
 }
 
 pub(crate) fn run(rt: &HostRuntime) -> anyhow::Result<()> {
@@ -229,7 +232,7 @@ pub(crate) fn run(rt: &HostRuntime) -> anyhow::Result<()> {
     all(rt, "lots for balances", &mut ledger)?;
     let mut ledger = Ledger::new(Balances::new(), Lots::new());
     all(rt, "balances for lots", &mut ledger)?;
-    println!(rt; "bytes")?;
+    println!(rt; "bytes ({})", Source::Hand)?;
     for count in [0, 1, 31, 33] {
         read(rt, count, 0)?;
     }

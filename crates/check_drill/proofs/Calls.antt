@@ -10,7 +10,8 @@ module _ {D : Type 0} (makes : D → DeviceCall → D → Type 0) (a b c : Devic
   abbrev three : Answer → Answer → Answer → List DeviceCall → List DeviceCall
   three x y z rest = a ∷ if_ok x (b ∷ if_ok y (c ∷ if_ok z rest []) []) []
 
-  pub traced-long : (x y z : Answer) (rest : List DeviceCall) (d d' e : D) → Ok tt ≡ and_then (and_then x y) z → IsTrace makes (three x y z []) d d' → IsTrace makes rest d' e → IsTrace makes (three x y z rest) d e
+  pub traced-long : (x y z : Answer) (rest : List DeviceCall) (d d' e : D) → Ok tt ≡ and_then (and_then x y) z
+      → IsTrace makes (three x y z []) d d' → IsTrace makes rest d' e → IsTrace makes (three x y z rest) d e
   traced-long (Err g) y z rest d d' e is t s = cc
   traced-long (Ok u) (Err g) z rest d d' e is t s = cc
   traced-long (Ok u) (Ok v) (Err g) rest d d' e is t s = cc

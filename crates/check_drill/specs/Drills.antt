@@ -58,7 +58,8 @@ pub record SyncRefusalLeaves (m m' : Medium) (s : ℕ) (bytes : List ℕ) : Type
 
 -- The second write was refused with the fault e: the first block holds the bytes and none is
 -- loose, but that after a 13 the second write's block may be loose, and may hold anything.
-pub record SecondRefusalLeaves (m m' : Medium) (s l : ℕ) (bytes : List ℕ) (e : Fault) : Type 0 where
+pub record SecondRefusalLeaves (m m' : Medium) (s l : ℕ) (bytes : List ℕ) (e : Fault)
+    : Type 0 where
   pub first : (s ≢ l) → m'.holds s ≡ Some bytes
   pub others : (k : ℕ) → (k ≢ s) → (k ≢ l) → m'.holds k ≡ m.holds k
   pub firm : (k : ℕ) → (k ≢ l) → m'.loose k ≡ false
@@ -93,7 +94,8 @@ pub record WritesBlocks (m m' : Medium) (s l : ℕ) (bytes : List ℕ) (r : Answ
 -- The power is cut, and block b read with `given` calls, which makes the buffer `old` to `new`.
 -- What the read answers and leaves in the buffer goes by what the block holds in the end, since a
 -- read changes no block.
-pub record CutsAndReads (m m' : Medium) (b given : ℕ) (old new : List ℕ) (r : Answer) : Type 0 where
+pub record CutsAndReads (m m' : Medium) (b given : ℕ) (old new : List ℕ) (r : Answer)
+    : Type 0 where
   pub answer :
       r ≡ and_then (admit_answer m.size given b (length old)) (content_answer b (m'.holds b))
   pub buffer : new ≡ if_ok r (buffer_after (m'.holds b) old) old

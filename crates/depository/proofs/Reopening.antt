@@ -20,7 +20,7 @@ use Rattle.engine.specs.ClosingSlip.{same_fields, slip_verdict, HasVerdict, pres
 use Rattle.engine.specs.View.{View}
 use Rattle.engine.specs.Asking.{opening_answer, contents_by_mode}
 use Rattle.engine.specs.Opening.{opening_view, last_of}
-use Rattle.engine.specs.Lasting.{blocks_for_books}
+use Rattle.engine.specs.StandingList.{blocks_for_books}
 use Rattle.engine.proofs.Keeping.{WithOrWithout, Holding, FoundBy}
 use Rattle.engine.proofs.Finds.{last-more}
 use Rattle.engine.proofs.Openings.{opens}

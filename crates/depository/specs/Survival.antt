@@ -6,7 +6,7 @@ use Rattle.refusals.specs.Numbers.{number_of}
 use Rattle.instruction.specs.declared.Instruction.{Instruction}
 use Rattle.book.specs.Holdings.{Holdings}
 use Rattle.rulebook.specs.Terms.{Side}
-use Rattle.rulebook.specs.Rules.{Rulebook, Runs}
+use Rattle.rulebook.specs.Rules.{Rulebook, AreAccepted}
 use Rattle.rulebook.specs.Law.{Determines}
 use Rattle.rulebook.specs.Words.{LastsAreUnique}
 use Rattle.device.specs.declared.TheConstants.{MOST_BLOCKS}
@@ -22,7 +22,7 @@ use Rattle.engine.specs.declared.slip.Verdict.{Verdict}
 use Rattle.engine.specs.ClosingSlip.{HasVerdict, presented_number}
 use Rattle.engine.specs.View.{View}
 use Rattle.engine.specs.Asking.{opening_answer}
-use Rattle.engine.specs.Lasting.{standing_list, blocks_for_books}
+use Rattle.engine.specs.StandingList.{standing_list, blocks_for_books}
 use Rattle.engine.specs.Opening.{header_for_books}
 use Rattle.depository.specs.Orders.{Order, open_order}
 use Rattle.depository.specs.declared.calls.Reply.{Reply}
@@ -61,7 +61,7 @@ pub record IsStandingList (h : Rulebook) (xs : List Instruction) (engine : View)
   -- that kind.)
   pub recorded : standing_list engine.medium engine.entry_count ≡ xs
   -- The rules accept them one after another, and so come to the engine's books and trades.
-  pub runs : Runs h xs engine.standing
+  pub runs : AreAccepted h xs engine.standing
   -- Each trade's state and terms are those that the list says. For each account and item, free and
   -- blocked together are its credits and what it received, less what it gave; and blocked is what
   -- its open trades hold.

@@ -1,6 +1,6 @@
--- What an answer tells, and how a read's promise is made from what the block holds.
+-- What a caller learns from an answer.
 use Rattle.std.proofs.Common.{◌≡◌, ℕ, ◌<◌, eqb, List, length, Ok, Err, sym, refl, ap, ◌∙◌, inl, inr, arith}
-use Rattle.std.proofs.lemmas.Bool.{cond-true, cond-false, lt-leb, eq-eqb, eqb-true, eqb-false, cases_Bool}
+use Rattle.std.proofs.lemmas.Bool.{not_from_true, cond-true, cond-false, lt-leb, eq-eqb, eqb-true, eqb-false, cases_Bool}
 use Rattle.refusals.specs.declared.Refusal.TheVariants.{NoCalls}
 use Rattle.refusals.specs.declared.Fault.{Fault}
 use Rattle.refusals.specs.Faults.{plain, at_block}
@@ -16,14 +16,16 @@ pub record Passed (size left b n : ℕ) : Type 0 where
 pub passed : (size left b n : ℕ) → admit_answer size left b n ≡ Ok tt → Passed size left b n
 passed size left b n e = record { in-range = grind arith; whole = grind arith; calls = grind arith }
 
--- the same checks, of a number of blocks that is said otherwise
-pub admit_answer-as : (size size' left b n : ℕ) → size ≡ size' → Ok tt ≡ admit_answer size left b n → admit_answer size' left b n ≡ Ok tt
+-- the same checks, for an equal number of blocks
+pub admit_answer-as : (size size' left b n : ℕ) → size ≡ size' → Ok tt ≡ admit_answer size left b n
+    → admit_answer size' left b n ≡ Ok tt
 admit_answer-as size size' left b n e ok = ap (λ (k : ℕ). admit_answer k left b n) (sym e) ∙ sym ok
 
--- one that did not, though its block and its bytes are right
-pub refused : (size left b n : ℕ) (e : Fault) → Err e ≡ admit_answer size left b n → b < size → n ≡ 256 → (e ≡ at_block NoCalls b) × (left ≡ 0)
+-- a call that did not pass, though its block and its length are right
+pub refused : (size left b n : ℕ) (e : Fault) → Err e ≡ admit_answer size left b n → b < size → n ≡ 256
+    → (e ≡ at_block NoCalls b) × (left ≡ 0)
 refused size left b n e h l w =
-    let p = cond-false _ _ _ (lt-leb size b l) ∙ cond-true _ _ _ (eq-eqb n 256 w) in
+    let p = cond-false _ _ _ (lt-leb size b l) ∙ cond-false _ _ _ (not_from_true _ (eq-eqb n 256 w)) in
     elim (cases_Bool (eqb left 0)) [
       | inl t ↦
           let q : Err e ≡ Err (at_block NoCalls b) = h ∙ p ∙ cond-true _ _ _ t in
@@ -33,11 +35,13 @@ refused size left b n e h l w =
           absurd cc
     ]
 
--- What a caller learns of its device: the record shows its media, so they need not be written.
-pub write-passed : {m m' : Medium} {b : ℕ} {bytes : List ℕ} → Write m m' b bytes (Ok tt) → Passed m.size m.calls_left b (length bytes)
+-- The same, from the promise of a write or of a sync.
+pub write-passed : {m m' : Medium} {b : ℕ} {bytes : List ℕ} → Write m m' b bytes (Ok tt)
+    → Passed m.size m.calls_left b (length bytes)
 write-passed {m} {m'} {b} {bytes} w = passed m.size m.calls_left b (length bytes) (sym w.answer)
 
-pub write-refused : {m m' : Medium} {b : ℕ} {bytes : List ℕ} {e : Fault} → Write m m' b bytes (Err e) → b < m.size → length bytes ≡ 256 → (e ≡ at_block NoCalls b) × (m.calls_left ≡ 0)
+pub write-refused : {m m' : Medium} {b : ℕ} {bytes : List ℕ} {e : Fault} → Write m m' b bytes (Err e) → b < m.size
+    → length bytes ≡ 256 → (e ≡ at_block NoCalls b) × (m.calls_left ≡ 0)
 write-refused {m} {m'} {b} {bytes} {e} w l full = refused m.size m.calls_left b (length bytes) e w.answer l full
 
 pub sync-passed : {m m' : Medium} → Sync m m' (Ok tt) → 0 < m.calls_left

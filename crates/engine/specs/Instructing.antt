@@ -52,7 +52,7 @@ pub record Accepts (x : Instruction) (v v' : View) : Type 0 where
 
 -- Power went while the entry was written: the instruction is in hand, and books and trades are as
 -- they were.
-pub record CutsOff (x : Instruction) (v v' : View) : Type 0 where
+pub record GoesDown (x : Instruction) (v v' : View) : Type 0 where
   pub mode : v'.mode ≡ Down x
   pub medium : WritesEntry (record_bytes v.entry_count x) (mark_bytes v.entry_count) v.entry_count
       v.medium v'.medium
@@ -67,7 +67,7 @@ pub record CutsOff (x : Instruction) (v v' : View) : Type 0 where
 abbrev pub Leaves : Answer → Answer → Instruction → View → View → Type 0
 Leaves (Err f) written x v v' = v' ≡ v
 Leaves (Ok u) (Ok w) x v v' = Accepts x v v'
-Leaves (Ok u) (Err f) x v v' = CutsOff x v v'
+Leaves (Ok u) (Err f) x v v' = GoesDown x v v'
 
 -- an instruction is answered r, and leads the engine from v to v'
 pub record TakesInstruction (h : Rulebook) (x : Instruction) (v v' : View) (r : Answer) : Type 0

@@ -5,5 +5,5 @@ pub mod Opening
 pub mod Instructing
 pub mod Asking
 pub mod Tracing
-pub mod Lasting
+pub mod StandingList
 pub mod Findings

@@ -1,11 +1,14 @@
-// The examination program: reads a script from standard input and prints its key.
+//! The examination program: reads a script from standard input and prints its key.
+//!
+//! What it prints is what `examination::examine` gives, which is proved to be the key of the script.
 #![tactic(auto)]
 
 use anyhow::anyhow;
 use examination::examine;
 use std::io::Read;
 
-// One byte more than a script may have, so that a longer input is seen as too long and not read to its end.
+// One byte more than a script may have, so that a longer input is seen as too long and not read to
+// its end.
 const ENOUGH: u64 = 65537;
 
 fn main(rt: HostRuntime) -> anyhow::Result<()> {

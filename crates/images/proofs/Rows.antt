@@ -19,7 +19,8 @@ row-before w k b h = omega (arith, row-end w k, mul-le-mul_left {m = k + 1} {n =
 pub room : (w : ℕ) (image : List ℕ) (b : ℕ) → b < block_count w image → w * b + w ≤ length image
 room w image b h =
     let l : b < length image / w = omega arith in
-    omega (arith, row-before w b (length image / w) l, div-mul-le_self (length image) w, mul_comm (length image / w) w)
+    omega
+    (arith, row-before w b (length image / w) l, div-mul-le_self (length image) w, mul_comm (length image / w) w)
 
 pub row-full : (w : ℕ) (image : List ℕ) (b : ℕ) → w * b + w ≤ length image → length (row w image b) ≡ w
 row-full w image b h = simp (length-take, length-drop) (omega arith)
@@ -60,7 +61,9 @@ module _ (w : ℕ) (image : List ℕ) (b : ℕ) (r : List ℕ) (in-range : w * b
   rest-same n k h l = splice-outside image (w * b) r fits k (inr (omega (arith, row-before w b n h)))
 
 -- the Vec of the image, after a write of r to the row's slice: s is what the image lent, and new what the slice holds
-pub lent-put : (w : ℕ) (v : Vec ℕ Global) (s : List ℕ) (b : ℕ) (new r : List ℕ) → b < block_count w v.items → s ≡ v.items → new ≡ r → length r ≡ w → (with_items v (put_mid (w * b) (w * b + w - w * b) s new)).items ≡ with_row w v.items b r
+pub lent-put : (w : ℕ) (v : Vec ℕ Global) (s : List ℕ) (b : ℕ) (new r : List ℕ) → b < block_count w v.items
+    → s ≡ v.items → new ≡ r → length r ≡ w
+    → (with_items v (put_mid (w * b) (w * b + w - w * b) s new)).items ≡ with_row w v.items b r
 lent-put w v s b new r h lent is full =
     let mid : put_mid (w * b) (w * b + w - w * b) s new ≡ with_row w v.items b r =
     mid-is s new (w * b) (w * b + w - w * b) (omega (arith, ap length is))
@@ -71,16 +74,18 @@ lent-put w v s b new r h lent is full =
 row-at : (w : ℕ) (xs : List ℕ) (b k : ℕ) → k < w → get_or (row w xs b) k 0 ≡ get_or xs (w * b + k) 0
 row-at w xs b k l = get_or-take w _ k 0 l ∙ get_or-drop (w * b) xs k 0
 
--- what is not yet gone over is as it was
-pub each-next : (w : ℕ) (f : ℕ → List ℕ → List ℕ) (n : ℕ) (xs ys : List ℕ) → ChangesRows w f n xs ys → row w ys n ≡ row w xs n
+-- a row that is not yet changed is as it was
+pub each-next : (w : ℕ) (f : ℕ → List ℕ → List ℕ) (n : ℕ) (xs ys : List ℕ) → ChangesRows w f n xs ys
+    → row w ys n ≡ row w xs n
 each-next w f n xs ys s =
     ext_get_or 0 _ _ (simp (length-take, length-drop, s.len))
     (λ k l.
     let i : k < w = omega (arith, length-take w (drop (w * n) ys)) in
     row-at w ys n k i ∙ s.rest (w * n + k) (omega arith) ∙ sym (row-at w xs n k i))
 
--- one row more, from the first on
-pub each-more : (w : ℕ) (f : ℕ → List ℕ → List ℕ) (n : ℕ) (xs ys r : List ℕ) → w * n + w ≤ length xs → ChangesRows w f n xs ys → length r ≡ w → r ≡ f n (row w ys n) → ChangesRows w f (n + 1) xs (with_row w ys n r)
+-- one more row changed, after the first n
+pub each-more : (w : ℕ) (f : ℕ → List ℕ → List ℕ) (n : ℕ) (xs ys r : List ℕ) → w * n + w ≤ length xs
+    → ChangesRows w f n xs ys → length r ≡ w → r ≡ f n (row w ys n) → ChangesRows w f (n + 1) xs (with_row w ys n r)
 each-more w f n xs ys r h s full e =
     let in-range : w * n + w ≤ length ys = omega (arith, s.len) in
     record {
@@ -95,25 +100,30 @@ each-more w f n xs ys r h s full e =
       rest = λ k l. rest-same w ys n r in-range full (n + 1) k (omega arith) l ∙ s.rest k (omega (arith, row-end w n));
     }
 
--- one row anew, whichever it is: g is f but for that row
-pub each-again : (w : ℕ) (f g : ℕ → List ℕ → List ℕ) (n : ℕ) (xs ys : List ℕ) (b : ℕ) (r : List ℕ) → w * n ≤ length xs → ChangesRows w f n xs ys → b < n → length r ≡ w → r ≡ g b (row w xs b) → ((k : ℕ) → k ≢ b → f k (row w xs k) ≡ g k (row w xs k)) → ChangesRows w g n xs (with_row w ys b r)
+-- one row changed again, where g differs from f at that row alone
+pub each-again : (w : ℕ) (f g : ℕ → List ℕ → List ℕ) (n : ℕ) (xs ys : List ℕ) (b : ℕ) (r : List ℕ) → w * n ≤ length xs
+    → ChangesRows w f n xs ys → b < n → length r ≡ w → r ≡ g b (row w xs b)
+    → ((k : ℕ) → k ≢ b → f k (row w xs k) ≡ g k (row w xs k)) → ChangesRows w g n xs (with_row w ys b r)
 each-again w f g n xs ys b r h s lt full e others =
     let in-range : w * b + w ≤ length ys = omega (arith, s.len, row-before w b n lt) in
     record {
       len = put-length w ys b r in-range full ∙ s.len;
       rows = λ k l.
           elim (cases_eq k b) [
-            | inl same ↦ subst (λ (m : ℕ). row w (with_row w ys b r) m ≡ g m (row w xs m)) (sym same) (row-same w ys b r in-range full ∙ e)
+            | inl same ↦
+                subst (λ (m : ℕ). row w (with_row w ys b r) m ≡ g m (row w xs m)) (sym same)
+                (row-same w ys b r in-range full ∙ e)
             | inr away ↦ row-other w ys b r in-range full k away ∙ s.rows k l ∙ others k away
           ];
       rest = λ k l. rest-same w ys b r in-range full n k lt l ∙ s.rest k l;
     }
 
--- the same change, said otherwise
-pub each-as : (w : ℕ) (f g : ℕ → List ℕ → List ℕ) (n : ℕ) (xs ys : List ℕ) → ChangesRows w f n xs ys → ((b : ℕ) → b < n → f b (row w xs b) ≡ g b (row w xs b)) → ChangesRows w g n xs ys
+-- the same change, by a function that agrees with f on these rows
+pub each-as : (w : ℕ) (f g : ℕ → List ℕ → List ℕ) (n : ℕ) (xs ys : List ℕ) → ChangesRows w f n xs ys
+    → ((b : ℕ) → b < n → f b (row w xs b) ≡ g b (row w xs b)) → ChangesRows w g n xs ys
 each-as w f g n xs ys s h = record { len = s.len; rows = λ b l. s.rows b l ∙ h b l; rest = s.rest }
 
--- a place in the first n rows, by its row and its place there
+-- a place in the first n rows, as a row and a place in it
 place : (w i n : ℕ) → i < w * n → (b : ℕ) × (k : ℕ) × (b < n) × (k < w) × (i ≡ w * b + k)
 place w i zero l = absurd (omega (arith, l))
 place w i (suc n) l =
@@ -124,8 +134,9 @@ place w i (suc n) l =
       | inr from ↦ (n, i - w * n, omega arith, omega arith, omega arith)
     ]
 
--- the rows and the rest are all of an image
-pub each-fixed : (w : ℕ) (f : ℕ → List ℕ → List ℕ) (n : ℕ) (xs ys zs : List ℕ) → ChangesRows w f n xs ys → ChangesRows w f n xs zs → ys ≡ zs
+-- an image is fixed by its rows and the bytes past them
+pub each-fixed : (w : ℕ) (f : ℕ → List ℕ → List ℕ) (n : ℕ) (xs ys zs : List ℕ) → ChangesRows w f n xs ys
+    → ChangesRows w f n xs zs → ys ≡ zs
 each-fixed w f n xs ys zs s t =
     ext_get_or 0 ys zs (s.len ∙ sym t.len)
     (λ i _.

@@ -19,7 +19,8 @@ is_stray k i f = not (uses k f) && not (eqb (value_of f i) 0)
 
 zero-if : (u : Bool) (n : ℕ) → (not u && not (eqb n 0)) ≡ false → u ≡ false → n ≡ 0
 zero-if true n e v = absurd cc
-zero-if false n e v = ⊎_elim (λ t. eqb-true n 0 t) (λ t. let w : not (eqb n 0) ≡ true = ap not t in absurd cc) (cases_Bool (eqb n 0))
+zero-if false n e v = ⊎_elim (λ t. eqb-true n 0 t) (λ t. let w : not (eqb n 0) ≡ true = ap not t in absurd cc)
+    (cases_Bool (eqb n 0))
 
 if-zero : (u : Bool) (n : ℕ) → (u ≡ false → n ≡ 0) → (not u && not (eqb n 0)) ≡ false
 if-zero true n h = refl
@@ -34,7 +35,17 @@ others-zero k i e =
     let t = or_parts (is_stray k i Trade) _ s.1 in
     let u = or_parts (is_stray k i Quantity) _ t.1 in
     let v = or_parts (is_stray k i Amount) _ u.1 in
-    λ f. zero-if (uses k f) (value_of f i) (elim f as (λ f. is_stray k i f ≡ false) [ Account ↦ p.0 | Counterparty ↦ q.0 | Item ↦ r.0 | Currency ↦ s.0 | Trade ↦ t.0 | Quantity ↦ u.0 | Amount ↦ v.0 ])
+    λ f. zero-if (uses k f) (value_of f i)
+    (elim f as (λ f. is_stray k i f ≡ false) [
+      | Account ↦ p.0
+      | Counterparty ↦ q.0
+      | Item ↦ r.0
+      | Currency ↦ s.0
+      | Trade ↦ t.0
+      | Quantity ↦ u.0
+      | Amount ↦
+          v.0
+    ])
 
 no-stray : (k : Kind) (i : Instruction) → OthersZero k i → has_stray k i ≡ false
 no-stray k i h =

@@ -6,9 +6,9 @@ use Rattle.little_endian.specs.Little.{le_bytes, bytes_from}
 use Rattle.little_endian.proofs.Widths.{le-bytes, part-back, part-whole}
 use Rattle.refusals.specs.declared.Refusal.TheVariants.{Malformed}
 use Rattle.instruction.specs.declared.Instruction.{Instruction}
-use Rattle.instruction.specs.Layout.{bytes_of, instruction_in, fields_in, unused_zero, IsInstruction, Lies, LaidOut, Reads, Fit}
+use Rattle.instruction.specs.Layout.{bytes_of, instruction_in, fields_in, unused_zero, IsInstruction, LiesAt, IsLaidOut, Reads, IsEncodable}
 
-pub there : (i : Instruction) → Fit i → instruction_in (bytes_of i) ≡ Ok i
+pub there : (i : Instruction) → IsEncodable i → instruction_in (bytes_of i) ≡ Ok i
 there i f =
     let a = le-bytes 2 i.account f.account in
     let b = le-bytes 2 i.counterparty f.counterparty in
@@ -17,7 +17,16 @@ there i f =
     let n = le-bytes 4 i.trade f.trade in
     let q = le-bytes 8 i.quantity f.quantity in
     let m = le-bytes 8 i.amount f.amount in
-    λ k. Ok (record { kind = i.kind; account = a k; counterparty = b k; item = t k; currency = u k; trade = n k; quantity = q k; amount = m k })
+    λ k. Ok (record {
+      kind = i.kind;
+      account = a k;
+      counterparty = b k;
+      item = t k;
+      currency = u k;
+      trade = n k;
+      quantity = q k;
+      amount = m k;
+    })
 
 laid-back : (bs : List ℕ) → ((i : ℕ) → get_or bs i 0 < 256) → IsInstruction bs → bytes_of (fields_in bs) ≡ bs
 laid-back bs h s =
@@ -31,7 +40,9 @@ laid-back bs h s =
     let n = part-back 12 4 bs h in
     let y = part-back 16 8 bs h in
     let m = part-back 24 8 bs h in
-    let e : bytes_of (fields_in bs) ≡ bytes_from 0 32 bs = λ k. get_or bs 0 0 ∷ z1 k ∷ (a k ++ (b k ++ (t k ++ (u k ++ (z10 k ∷ z11 k ∷ (n k ++ (y k ++ m k))))))) in
+    let e : bytes_of
+    (fields_in bs) ≡ bytes_from 0 32 bs = λ k. get_or bs 0 0 ∷ z1
+    k ∷ (a k ++ (b k ++ (t k ++ (u k ++ (z10 k ∷ z11 k ∷ (n k ++ (y k ++ m k))))))) in
     e ∙ sym (part-whole 32 bs s.long)
 
 is-instruction : (bs : List ℕ) → (eqb (length bs) 32 && unused_zero bs) ≡ true → IsInstruction bs
@@ -46,7 +57,8 @@ byte-at : (w n k : ℕ) → k < w → get_or (le_bytes w n) k 0 ≡ (n / (2 ^ 8)
 byte-at zero n k l = absurd (omega arith)
 byte-at (suc w) n zero l = ap (λ m. m % 256) (sym (div-one n))
 byte-at (suc w) n (suc k) l =
-    byte-at w (n / 256) k (omega arith) ∙ ap (λ m. m % 256) (div-div-eq-div-mul n 256 (256 ^ k) ∙ ap (λ m. n / m) (mul_comm 256 (256 ^ k) ∙ sym (pow-suc 256 k)))
+    byte-at w (n / 256) k (omega arith) ∙ ap (λ m. m % 256) (div-div-eq-div-mul n 256 (256 ^ k) ∙ ap (λ m. n / m)
+    (mul_comm 256 (256 ^ k) ∙ sym (pow-suc 256 k)))
 
 part-at : (bs : List ℕ) (at w k : ℕ) → k < w → get_or (bytes_from at w bs) k 0 ≡ get_or bs (at + k) 0
 part-at bs at zero k l = absurd (omega arith)
@@ -55,10 +67,10 @@ part-at bs at (suc w) (suc k) l =
     let e : suc at + k ≡ at + suc k = omega arith in
     part-at bs (suc at) w k (omega arith) ∙ ap (λ p. get_or bs p 0) e
 
-lies : (bs : List ℕ) (at w n : ℕ) → bytes_from at w bs ≡ le_bytes w n → Lies bs at w n
+lies : (bs : List ℕ) (at w n : ℕ) → bytes_from at w bs ≡ le_bytes w n → LiesAt bs at w n
 lies bs at w n e k l = sym (part-at bs at w k l) ∙ ap (λ t. get_or t k 0) e ∙ byte-at w n k l
 
-pub laid-out : (i : Instruction) → LaidOut (bytes_of i) i
+pub laid-out : (i : Instruction) → IsLaidOut (bytes_of i) i
 laid-out i = record {
   whole = record { long = refl; one = refl; ten = refl; eleven = refl };
   kind = refl;
@@ -78,7 +90,7 @@ reads-cases : (bs : List ℕ) → ((i : ℕ) → get_or bs i 0 < 256) → (t : B
     → Reads bs (cond t (Ok (fields_in bs)) (Err Malformed))
 reads-cases bs h true e =
     let b = laid-back bs h (is-instruction bs e) in
-    (subst (λ c. LaidOut c (fields_in bs)) b (laid-out (fields_in bs)), b)
+    (subst (λ c. IsLaidOut c (fields_in bs)) b (laid-out (fields_in bs)), b)
 reads-cases bs h false e = (refl, λ s. let z : true ≡ false = sym (passes bs s) ∙ e in cc)
 
 pub reads : (bs : List ℕ) → ((i : ℕ) → get_or bs i 0 < 256) → Reads bs (instruction_in bs)

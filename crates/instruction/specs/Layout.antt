@@ -75,28 +75,28 @@ pub record IsInstruction (bs : List ℕ) : Type 0 where
   pub eleven : slice_index_or bs 11 0 ≡ 0
 
 -- the number n lies in the w bytes from place `at` on, the lowest byte first
-abbrev pub Lies : List ℕ → ℕ → ℕ → ℕ → Type 0
-Lies bs at w n = (k : ℕ) → k < w → slice_index_or bs (at + k) 0 ≡ (n / (2 ^ 8) ^ k) % 2 ^ 8
+abbrev pub LiesAt : List ℕ → ℕ → ℕ → ℕ → Type 0
+LiesAt bs at w n = (k : ℕ) → k < w → slice_index_or bs (at + k) 0 ≡ (n / (2 ^ 8) ^ k) % 2 ^ 8
 
 -- The layout, place by place: the law above `bytes_of`, which shares no place or width with it.
-pub record LaidOut (bs : List ℕ) (i : Instruction) : Type 0 where
+pub record IsLaidOut (bs : List ℕ) (i : Instruction) : Type 0 where
   pub whole : IsInstruction bs
   pub kind : slice_index_or bs 0 0 ≡ i.kind
-  pub account : Lies bs 2 2 i.account
-  pub counterparty : Lies bs 4 2 i.counterparty
-  pub item : Lies bs 6 2 i.item
-  pub currency : Lies bs 8 2 i.currency
-  pub trade : Lies bs 12 4 i.trade
-  pub quantity : Lies bs 16 8 i.quantity
-  pub amount : Lies bs 24 8 i.amount
+  pub account : LiesAt bs 2 2 i.account
+  pub counterparty : LiesAt bs 4 2 i.counterparty
+  pub item : LiesAt bs 6 2 i.item
+  pub currency : LiesAt bs 8 2 i.currency
+  pub trade : LiesAt bs 12 4 i.trade
+  pub quantity : LiesAt bs 16 8 i.quantity
+  pub amount : LiesAt bs 24 8 i.amount
 
 -- what `from_bytes` answers: the one instruction that has these bytes, or that there is none
 abbrev pub Reads : List ℕ → Result Instruction Refusal → Type 0
-Reads bs (Ok i) = LaidOut bs i × (bytes_of i ≡ bs)
+Reads bs (Ok i) = IsLaidOut bs i × (bytes_of i ≡ bs)
 Reads bs (Err r) = (number_of r ≡ 46) × (IsInstruction bs → ⊥)
 
 -- each field fits its type, as in every instruction of the code
-pub record Fit (i : Instruction) : Type 0 where
+pub record IsEncodable (i : Instruction) : Type 0 where
   pub kind : i.kind < 2 ^ 8
   pub account : i.account < 2 ^ 16
   pub counterparty : i.counterparty < 2 ^ 16

@@ -33,9 +33,11 @@ bytes-le [] h = refl
 bytes-le (b ∷ bs) h = byte-back b (le_number bs) (length bs) h.0 ∙ ap (λ t. b ∷ t) (bytes-le bs h.1)
 
 -- the bytes from a place on, read and written again
-pub part-back : (at w : ℕ) (bs : List ℕ) → ((k : ℕ) → get_or bs k 0 < 256) → le_bytes w (le_number (bytes_from at w bs)) ≡ bytes_from at w bs
+pub part-back : (at w : ℕ) (bs : List ℕ) → ((k : ℕ) → get_or bs k 0 < 256)
+    → le_bytes w (le_number (bytes_from at w bs)) ≡ bytes_from at w bs
 part-back at zero bs h = refl
-part-back at (suc w) bs h = byte-back (get_or bs at 0) (le_number (bytes_from (suc at) w bs)) w (h at) ∙ ap (λ t. get_or bs at 0 ∷ t) (part-back (suc at) w bs h)
+part-back at (suc w) bs h = byte-back (get_or bs at 0) (le_number (bytes_from (suc at) w bs)) w (h at)
+    ∙ ap (λ t. get_or bs at 0 ∷ t) (part-back (suc at) w bs h)
 
 pub every_width : EveryWidth
 every_width = record { written = le-bytes; read = bytes-le }

@@ -1,4 +1,4 @@
-// The table alone: a struct with an invariant imports what its file does.
+// The table alone in a file: the invariants of a struct see the imports of its file, and those of `lib.rt` would be too many.
 ghost use Rattle.lots.specs.Owners.{IsWholeTable, AccountsOwn};
 
 // How many items the book has, numbered from 0.
@@ -7,11 +7,14 @@ pub(crate) const ITEMS: u16 = 256;
 // The most that an item may total: a lot is there once.
 pub(crate) const CEILING: u64 = 1;
 
-// Which account has a lot, and whether it is blocked.
+/// Who has a lot, and whether it is blocked.
 #[derive(Clone, Copy)]
 pub enum Lot {
+    /// No account has it.
     Unowned,
+    /// This account has it free.
     Free(u16),
+    /// This account has it blocked.
     Blocked(u16),
 }
 

@@ -1,4 +1,4 @@
--- The list of loose blocks.
+-- Lemmas on the list of loose blocks.
 use Rattle.std.proofs.Common.{◌≡◌, ℕ, zero, suc, ◌+◌, ◌*◌, ◌<◌, ◌≤◌, Bool, true, false, cond, ◌||◌, eqb, ltb, ◌≢◌, List, [], ◌∷◌, ◌++◌, length, get_or, take, drop, Some, None, Option, Vec, vec_items, sym, refl, ap, ◌∙◌, inl, inr, arith}
 use Rattle.std.specs.Simd.{first_chunks}
 use Rattle.std.proofs.lemmas.List.{take_more, length_push, drop-drop}
@@ -28,27 +28,34 @@ names-other [] y k away = or_from (eqb y k) false (ne_eqb y k (λ e. away (sym e
 names-other (x ∷ xs) y k away = ap (λ (t : Bool). eqb x k || t) (names-other xs y k away)
 
 -- a block that was not loose, at the end of a list
-pub longer_added : (old new : List ℕ) (loose : Bool) (b : ℕ) → loose ≡ false → new ≡ old ++ (b ∷ []) → AddsBlock old new loose b
+pub longer_added : (old new : List ℕ) (loose : Bool) (b : ℕ) → loose ≡ false → new ≡ old ++ (b ∷ [])
+    → AddsBlock old new loose b
 longer_added old new loose b firm e = record {
   before = λ k h. rw e (names-more old b k h);
   here = rw e (names-last old b);
   short = rw (e, firm) (omega (arith, length_push old b));
 }
 
--- what a list says of a block that is loose
-pub lists-named : (list image : List ℕ) (b : ℕ) → ListsLoose list image → b < block_count 514 image → is_loose (row 514 image b) ≡ true → is_on list b ≡ true
+-- a loose block is on a list of all loose blocks
+pub lists-named : (list image : List ℕ) (b : ℕ) → ListsLoose list image → b < block_count 514 image
+    → is_loose (row 514 image b) ≡ true → is_on list b ≡ true
 lists-named list image b h l e = h b (of-row-here 514 is_loose false image b l ∙ e)
 
--- and how it is known to say it of all
-pub lists-from : (list image : List ℕ) → ((b : ℕ) → b < block_count 514 image → is_loose (row 514 image b) ≡ true → is_on list b ≡ true) → ListsLoose list image
+-- how to show that a list has all loose blocks
+pub lists-from : (list image : List ℕ)
+    → ((b : ℕ) → b < block_count 514 image → is_loose (row 514 image b) ≡ true → is_on list b ≡ true)
+    → ListsLoose list image
 lists-from list image h b e =
     elim (cases_Bool (ltb b (block_count 514 image))) [
       | inl t ↦ h b (ltb-true b (block_count 514 image) t) (sym (cond-true (ltb b (block_count 514 image)) _ _ t) ∙ e)
       | inr f ↦ absurd (false≢true (sym (cond-false (ltb b (block_count 514 image)) _ _ f) ∙ e))
     ]
 
--- a block that was noted may be loose then
-pub lists-noted : (list list' : Option (Vec ℕ Global)) (image image' : List ℕ) (loose : Bool) (b : ℕ) → AddsIfAny list list' loose b → ((k : ℕ) → k ≢ b → of_row 514 is_loose false image' k ≡ of_row 514 is_loose false image k) → ListsLooseIfAny list image → ListsLooseIfAny list' image'
+-- after a write to block b, the list still has all loose blocks
+pub lists-noted : (list list' : Option (Vec ℕ Global)) (image image' : List ℕ) (loose : Bool) (b : ℕ)
+    → AddsIfAny list list' loose b
+    → ((k : ℕ) → k ≢ b → of_row 514 is_loose false image' k ≡ of_row 514 is_loose false image k)
+    → ListsLooseIfAny list image → ListsLooseIfAny list' image'
 lists-noted list None image image' loose b noted others h = tt
 lists-noted None (Some v') image image' loose b noted others h = absurd noted
 lists-noted (Some v) (Some v') image image' loose b noted others h =
@@ -58,8 +65,9 @@ lists-noted (Some v) (Some v') image image' loose b noted others h =
       | inr away ↦ noted.before k (h k (sym (others k away) ∙ e))
     ]
 
--- a list that grows only with a block that was not loose
-pub short-noted : (list list' : Option (Vec ℕ Global)) (count count' : ℕ) (loose : Bool) (b : ℕ) → AddsIfAny list list' loose b → IsShort list count → count' ≡ cond loose count (count + 1) → IsShort list' count'
+-- a list that grows only by a block that was not loose
+pub short-noted : (list list' : Option (Vec ℕ Global)) (count count' : ℕ) (loose : Bool) (b : ℕ)
+    → AddsIfAny list list' loose b → IsShort list count → count' ≡ cond loose count (count + 1) → IsShort list' count'
 short-noted list None count count' loose b noted h e = tt
 short-noted None (Some v') count count' loose b noted h e = absurd noted
 short-noted (Some v) (Some v') count count' true b noted h e = omega (arith, noted.short)
@@ -67,12 +75,15 @@ short-noted (Some v) (Some v') count count' false b noted h e = omega (arith, no
 
 -- a sync of the next block of the list: i is its place there
 module _ (size : ℕ) (xs ys list : List ℕ) (i : ℕ) (within : i < length list) (h : 514 * size ≤ length xs) (s : ChangesRows 514 (row_after_listed_sync (take i list)) size xs ys) where
-  also : (k : ℕ) → k ≢ get_or list i 0 → row_after_listed_sync (take i list) k (row 514 xs k) ≡ row_after_listed_sync (take (i + 1) list) k (row 514 xs k)
+  also : (k : ℕ) → k ≢ get_or list i 0
+      → row_after_listed_sync (take i list) k (row 514 xs k) ≡ row_after_listed_sync (take (i + 1) list) k (row 514 xs k)
   also k away =
       ap (λ (t : Bool). cond t (row_after_sync k (row 514 xs k)) (row 514 xs k))
       (sym (ap (λ (zs : List ℕ). is_on zs k) (take_more list i 0 within) ∙ names-other (take i list) (get_or list i 0) k away))
 
-  pub listed-more : (r : List ℕ) → get_or list i 0 < size → length r ≡ 514 → r ≡ row_after_sync 0 (row 514 ys (get_or list i 0)) → ChangesRows 514 (row_after_listed_sync (take (i + 1) list)) size xs (with_row 514 ys (get_or list i 0) r)
+  pub listed-more : (r : List ℕ) → get_or list i 0 < size → length r ≡ 514
+      → r ≡ row_after_sync 0 (row 514 ys (get_or list i 0))
+      → ChangesRows 514 (row_after_listed_sync (take (i + 1) list)) size xs (with_row 514 ys (get_or list i 0) r)
   listed-more r lt full e =
       let b = get_or list i 0 in
       let r₀ = row 514 xs b in
@@ -80,15 +91,20 @@ module _ (size : ℕ) (xs ys list : List ℕ) (i : ℕ) (within : i < length lis
       let twice : row_after_sync 0 (row_after_listed_sync (take i list) b r₀) ≡ row_after_sync b r₀ =
       cond_both (is_on (take i list) b) (row_after_sync b r₀) r₀ (λ zs. row_after_sync 0 zs ≡ row_after_sync b r₀)
       (λ _. synced-same 0 (row_after_sync b r₀) (synced-firm b r₀ wide)) (λ _. refl) in
-      let named : is_on (take (i + 1) list) b ≡ true = ap (λ (zs : List ℕ). is_on zs b) (take_more list i 0 within) ∙ names-last (take i list) b in
-      each-again 514 (row_after_listed_sync (take i list)) (row_after_listed_sync (take (i + 1) list)) size xs ys b r h s lt full
+      let named : is_on (take (i + 1) list) b ≡ true =
+      ap (λ (zs : List ℕ). is_on zs b) (take_more list i 0 within) ∙ names-last (take i list) b in
+      each-again 514 (row_after_listed_sync (take i list)) (row_after_listed_sync (take (i + 1) list)) size xs ys b r
+      h s lt full
       (e ∙ ap (row_after_sync 0) (s.rows b lt) ∙ twice ∙ sym (cond-true (is_on (take (i + 1) list) b) (row_after_sync b r₀) r₀ named)) also
 
   pub listed-past : size ≤ get_or list i 0 → ChangesRows 514 (row_after_listed_sync (take (i + 1) list)) size xs ys
-  listed-past le = each-as 514 (row_after_listed_sync (take i list)) (row_after_listed_sync (take (i + 1) list)) size xs ys s (λ k l. also k (λ e. omega arith))
+  listed-past le =
+      each-as 514 (row_after_listed_sync (take i list)) (row_after_listed_sync (take (i + 1) list)) size xs ys s
+      (λ k l. also k (λ e. omega arith))
 
--- what a list of all loose blocks does not name needs no sync
-pub listed-all : (size : ℕ) (xs ys list : List ℕ) → size ≡ block_count 514 xs → ListsLoose list xs → ChangesRows 514 (row_after_listed_sync list) size xs ys → ChangesRows 514 row_after_sync size xs ys
+-- a block that is not on a list of all loose blocks needs no sync
+pub listed-all : (size : ℕ) (xs ys list : List ℕ) → size ≡ block_count 514 xs → ListsLoose list xs
+    → ChangesRows 514 (row_after_listed_sync list) size xs ys → ChangesRows 514 row_after_sync size xs ys
 listed-all size xs ys list e h s =
     each-as 514 (row_after_listed_sync list) row_after_sync size xs ys s
     (λ b l.

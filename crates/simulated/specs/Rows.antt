@@ -35,14 +35,18 @@ row_after_sync b r = if is_loose r then firm_row 0 (newer_bytes r) r else r
 abbrev pub torn_bytes : List ℕ → List ℕ
 torn_bytes r = take HALF_BLOCK (newer_bytes r) ++ drop HALF_BLOCK (kept_bytes r)
 
+-- the row after such a write: half new and half old, or unreadable if the old bytes are
+abbrev pub torn_row : List ℕ → List ℕ
+torn_row r =
+    if is_readable r then firm_row 0 (torn_bytes r) r else firm_row 1 (kept_bytes r) r
+
 -- what a restart makes of a loose row, by its byte v of the remains
 abbrev pub revived_row : (v : ℕ) (r : List ℕ) → List ℕ
 revived_row v r =
     if v == 0 then firm_row (slice_index r 0) (kept_bytes r) r
     else (if v == 1 then firm_row 0 (newer_bytes r) r
     else (if v == 2 then firm_row 1 (kept_bytes r) r
-    else (if v == 3 then (if is_readable r then firm_row 0 (torn_bytes r) r
-    else firm_row 1 (kept_bytes r) r)
+    else (if v == 3 then torn_row r
     else firm_row 0 (replicate BLOCK_SIZE v) r)))
 
 -- how many of the first b blocks are loose

@@ -1,5 +1,5 @@
-// Many rows of an image. They are changed by block number: a contract says what one row becomes,
-// but not what a slice holds whose rows were lent all at once by `chunks_mut`.
+// Many rows of an image. They are lent one at a time, by block number: after `chunks_mut` has lent
+// all rows at once, the library's contract keeps the image's length alone.
 ghost use Rattle.std.specs.Prelude.{◌≡◌, ◌<◌, drop, if◌then◌else◌, nat_lt, slice_index};
 ghost use Rattle.std.specs.Slice.Iter.{iter_rest};
 ghost use Rattle.images.specs.Images.{with_row, row, ChangesRows};

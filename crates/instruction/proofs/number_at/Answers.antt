@@ -7,5 +7,6 @@ pub returns : goal.returns
 returns g c =
     let bs = c.args.b.now in
     let w : c.args.at + g.row.N - c.args.at ≡ g.row.N = omega arith in
-    let cut = c.copy_from_slice.ensures.after ∙ ap (λ n. take n (drop c.args.at bs)) w ∙ part-slice g.row.N c.args.at bs c.requires in
+    let cut = c.copy_from_slice.ensures.after ∙ ap (λ n. take n (drop c.args.at bs)) w
+    ∙ part-slice g.row.N c.args.at bs c.requires in
     c.from_little_endian.ensures.value ∙ ap le_number cut

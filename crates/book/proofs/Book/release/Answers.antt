@@ -4,6 +4,8 @@ use Rattle.book.proofs.Book.release.Goals as goal
 
 pub returns : goal.returns
 returns g c =
-    let same = ruling-self g.Self.Book.book_kind (g.Self.Book.holdings c.args.self.now) c.args.account c.args.item c.args.quantity in
-    let left = outcome-self g.Self.Book.book_kind (g.Self.Book.holdings c.args.self.now) c.args.account c.args.item c.args.quantity in
+    let same = ruling-self g.Self.Book.book_kind
+    (g.Self.Book.holdings c.args.self.now) c.args.account c.args.item c.args.quantity in
+    let left = outcome-self g.Self.Book.book_kind
+    (g.Self.Book.holdings c.args.self.now) c.args.account c.args.item c.args.quantity in
     search rules

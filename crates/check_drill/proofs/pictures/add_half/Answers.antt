@@ -6,5 +6,7 @@ use Rattle.check_drill.proofs.pictures.add_half.Goals as goal
 
 pub returns : goal.returns
 returns c ok =
-    join-both c.args.image.now.items (c.args.flag ∷ []) (replicate 256 c.args.byte) c.push.new.self.items c.extend_from_slice.new.self.items
-    (pushed (c.args.flag ∷ []) refl c.in_ok-push.was c.push.ensures.items) (c.extend_from_slice.ensures.items ∙ cond-true _ _ _ ok)
+    join-both c.args.image.now.items (c.args.flag ∷ []) (replicate 256 c.args.byte) c.push.new.self.items
+    c.extend_from_slice.new.self.items
+    (pushed (c.args.flag ∷ []) refl c.in_ok-push.was c.push.ensures.items)
+    (c.extend_from_slice.ensures.items ∙ cond-true _ _ _ ok)

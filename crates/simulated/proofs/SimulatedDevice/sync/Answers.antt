@@ -13,7 +13,8 @@ invariant_of-self-3 c =
     let xs = d.image.items in
     let ys = c.sync.new.rows.image.items in
     record {
-      listed = lists-none c.clear.new.self.list ys (sync-firm xs ys (subst (λ (n : ℕ). ChangesRows 514 row_after_sync n xs ys) d.sized c.sync.ensures.image));
+      listed = lists-none c.clear.new.self.list ys
+          (sync-firm xs ys (subst (λ (n : ℕ). ChangesRows 514 row_after_sync n xs ys) d.sized c.sync.ensures.image));
       short = short-none c.clear.new.self.list _ c.clear.ensures;
     }
 

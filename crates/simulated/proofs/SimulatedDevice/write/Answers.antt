@@ -22,12 +22,16 @@ invariant_of-self-2 c =
     let n = c.write.new.self.size in
     let size : n ≡ d.rows.size = c.write.new.self.sized ∙ call.elsewhere.size ∙ sym d.rows.sized in
     let loose : is_loose (row 514 xs b) ≡ c.is_some_and-loose.result =
-    seen-loose c.row.result (row 514 xs b) c.is_some_and-loose.result d.rows.size b c.is_some_and-loose.ensures c.row.ensures.value (omega (arith, here.in-range, d.rows.sized)) in
+    seen-loose c.row.result (row 514 xs b) c.is_some_and-loose.result d.rows.size b c.is_some_and-loose.ensures
+    c.row.ensures.value (omega (arith, here.in-range, d.rows.sized)) in
     let count : loose_count ys n ≡ cond c.is_some_and-loose.result (loose_count xs d.rows.size) (loose_count xs d.rows.size + 1) =
     ap (λ (zs : List ℕ). loose_count zs n) c.in_ok-write.ensures.image ∙ ap (loose_count (with_row 514 xs b r)) size
-    ∙ loose-put xs b r (room 514 xs b here.in-range) (written-full (row 514 xs b) bytes wide here.whole) (written-loose (row 514 xs b) bytes wide here.whole) d.rows.size (omega (arith, here.in-range, d.rows.sized))
+    ∙ loose-put xs b r (room 514 xs b here.in-range) (written-full (row 514 xs b) bytes wide here.whole)
+    (written-loose (row 514 xs b) bytes wide here.whole) d.rows.size (omega (arith, here.in-range, d.rows.sized))
     ∙ ap (λ (t : Bool). cond t (loose_count xs d.rows.size) (loose_count xs d.rows.size + 1)) loose in
     record {
-      listed = lists-noted d.loose.list c.note.new.self.list xs ys c.is_some_and-loose.result b c.note.ensures call.elsewhere.loose d.listed;
-      short = short-noted d.loose.list c.note.new.self.list (loose_count xs d.rows.size) (loose_count ys n) c.is_some_and-loose.result b c.note.ensures d.short count;
+      listed = lists-noted d.loose.list c.note.new.self.list xs ys c.is_some_and-loose.result b c.note.ensures
+          call.elsewhere.loose d.listed;
+      short = short-noted d.loose.list c.note.new.self.list (loose_count xs d.rows.size) (loose_count ys n)
+          c.is_some_and-loose.result b c.note.ensures d.short count;
     }

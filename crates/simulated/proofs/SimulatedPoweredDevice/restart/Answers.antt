@@ -12,7 +12,8 @@ invariant_of-self-3 c =
     let ys = c.restart_all.new.rows.image.items in
     let rem = c.args.remains.now in
     record {
-      listed = lists-none c.clear.new.self.list ys (restart-firm xs ys rem (subst (λ (n : ℕ). ChangesRows 514 (row_after_restart xs rem) n xs ys) d.sized c.restart_all.ensures.image));
+      listed = lists-none c.clear.new.self.list ys
+          (restart-firm xs ys rem (subst (λ (n : ℕ). ChangesRows 514 (row_after_restart xs rem) n xs ys) d.sized c.restart_all.ensures.image));
       short = short-none c.clear.new.self.list _ c.clear.ensures;
     }
 
@@ -22,7 +23,8 @@ returns-clause-blocks c =
     let xs = d.image.items in
     let ys = c.restart_all.new.rows.image.items in
     let rem = c.args.remains.now in
-    let s = subst (λ (n : ℕ). ChangesRows 514 (row_after_restart xs rem) n xs ys) d.sized c.restart_all.ensures.image in
+    let s =
+    subst (λ (n : ℕ). ChangesRows 514 (row_after_restart xs rem) n xs ys) d.sized c.restart_all.ensures.image in
     (same-blocks 514 xs ys s.len, restart-holds xs ys rem s)
 
 pub returns-clause-loose_set : goal.returns-clause-loose_set
@@ -31,4 +33,5 @@ returns-clause-loose_set c =
     let xs = d.image.items in
     let ys = c.restart_all.new.rows.image.items in
     let rem = c.args.remains.now in
-    restart-firm xs ys rem (subst (λ (n : ℕ). ChangesRows 514 (row_after_restart xs rem) n xs ys) d.sized c.restart_all.ensures.image)
+    restart-firm xs ys rem
+    (subst (λ (n : ℕ). ChangesRows 514 (row_after_restart xs rem) n xs ys) d.sized c.restart_all.ensures.image)

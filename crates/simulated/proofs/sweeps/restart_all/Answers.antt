@@ -20,11 +20,14 @@ loop-block-preserved c =
     let fits = room 514 xs b (omega (arith, d.sized)) in
     let next = each-next 514 (row_after_restart xs rem) b xs old inv.0 in
     let byte : get_or to_take 0 0 ≡ get_or rem (loose_count xs b) 0 =
-    ap (λ (zs : List ℕ). get_or zs 0 0) inv.1 ∙ get_or-drop (loose_count xs b) rem 0 0 ∙ ap (λ (n : ℕ). get_or rem n 0) (omega arith) in
+    ap (λ (zs : List ℕ). get_or zs 0 0) inv.1 ∙ get_or-drop (loose_count xs b) rem 0 0
+    ∙ ap (λ (n : ℕ). get_or rem n 0) (omega arith) in
     let full = restarted-full xs rem b was (row-full 514 old b (omega (arith, fits, inv.0.len))) in
     let put_is : c.restart_block.new.rows.image.items ≡ with_row 514 old b (row_after_restart xs rem b was) =
-    c.restart_block.ensures.image ∙ ap (λ (v : ℕ). with_row 514 old b (cond (is_loose was) (revived_row v was) was)) byte in (
-      subst (λ (zs : List ℕ). ChangesRows 514 (row_after_restart xs rem) (b + 1) xs zs) (sym put_is) (each-more 514 (row_after_restart xs rem) b xs old (row_after_restart xs rem b was) fits inv.0 full refl),
+    c.restart_block.ensures.image
+    ∙ ap (λ (v : ℕ). with_row 514 old b (cond (is_loose was) (revived_row v was) was)) byte in (
+      subst (λ (zs : List ℕ). ChangesRows 514 (row_after_restart xs rem) (b + 1) xs zs) (sym put_is)
+          (each-more 514 (row_after_restart xs rem) b xs old (row_after_restart xs rem b was) fits inv.0 full refl),
       c.restart_block.ensures.taken ∙ ap (λ (r : List ℕ). cond (is_loose r) (drop 1 to_take) to_take) next
           ∙ ap (λ (zs : List ℕ). cond (is_loose (row 514 xs b)) (drop 1 zs) zs) inv.1 ∙ taken-more xs rem b,
       c.restart_block.ensures.size ∙ inv.2,

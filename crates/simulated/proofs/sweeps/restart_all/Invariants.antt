@@ -6,7 +6,8 @@ use Rattle.simulated.proofs.sweeps.restart_all.Given as goal
 
 abbrev pub invariant-loop-block : goal.invariant-loop-block
 invariant-loop-block l =
-    ChangesRows 514 (row_after_restart l.initial.rows.image.items l.remains) l.block l.initial.rows.image.items l.rows.image.items
+    ChangesRows 514 (row_after_restart l.initial.rows.image.items l.remains) l.block l.initial.rows.image.items
+    l.rows.image.items
     × (iter_rest l.to_take ≡ drop (loose_count l.initial.rows.image.items l.block) l.remains)
     × (l.rows.size ≡ l.initial.rows.size)
     × (l.rows.calls_left ≡ l.initial.rows.calls_left)

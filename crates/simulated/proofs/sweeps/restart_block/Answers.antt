@@ -40,4 +40,5 @@ invariant_of-rows-clause-bytes c =
     let in-range : b < block_count 514 xs = omega (arith, c.requires, d.sized) in
     let seen = slice-row 514 xs c.as_mut_slice-image.result.now b c.as_mut_slice-image.ensures.value in
     let full : length new ≡ 514 = c.restart_row.auto.row ∙ ap length seen ∙ row-whole 514 xs b in-range in
-    subst AreBytes (sym (lent-put 514 d.image c.as_mut_slice-image.result.now b new new in-range c.as_mut_slice-image.ensures.value refl full)) (splice-bytes xs (514 * b) new d.bytes c.restart_row.ensures.bytes)
+    subst AreBytes
+    (sym (lent-put 514 d.image c.as_mut_slice-image.result.now b new new in-range c.as_mut_slice-image.ensures.value refl full)) (splice-bytes xs (514 * b) new d.bytes c.restart_row.ensures.bytes)

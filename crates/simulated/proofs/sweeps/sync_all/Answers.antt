@@ -14,7 +14,8 @@ loop-b-preserved c =
     let inv = c.loop-b.invariant in
     let fits = room 514 xs b (omega (arith, d.sized)) in
     let full = synced-full b (row 514 old b) (row-full 514 old b (omega (arith, fits, inv.0.len))) in (
-      subst (λ (zs : List ℕ). ChangesRows 514 row_after_sync (b + 1) xs zs) (sym c.sync_block.ensures.image) (each-more 514 row_after_sync b xs old (row_after_sync b (row 514 old b)) fits inv.0 full refl),
+      subst (λ (zs : List ℕ). ChangesRows 514 row_after_sync (b + 1) xs zs) (sym c.sync_block.ensures.image)
+          (each-more 514 row_after_sync b xs old (row_after_sync b (row 514 old b)) fits inv.0 full refl),
       c.sync_block.ensures.size ∙ inv.1,
       c.sync_block.ensures.calls_left ∙ inv.2,
     )

@@ -25,11 +25,15 @@ loop-b-preserved c =
       elim (cases_lt b c.loop-b.rows.size) [
         | inl l ↦
             let lt : get_or c.args.list.now c.loop-b.b-index 0 < c.args.rows.now.size = omega (arith, l, inv.1) in
-            let full = synced-full 0 (row 514 old b) (row-full 514 old b (omega (arith, inv.0.len, fits, row-before 514 b size lt))) in
-            subst (λ (zs : List ℕ). ChangesRows 514 (row_after_listed_sync (take (i + 1) list)) size xs zs) (sym (named ∙ cond-true _ _ _ (lt-ltb b c.loop-b.rows.size l)))
+            let full =
+            synced-full 0 (row 514 old b)
+            (row-full 514 old b (omega (arith, inv.0.len, fits, row-before 514 b size lt))) in
+            subst (λ (zs : List ℕ). ChangesRows 514 (row_after_listed_sync (take (i + 1) list)) size xs zs)
+            (sym (named ∙ cond-true _ _ _ (lt-ltb b c.loop-b.rows.size l)))
             (listed-more size xs old list i within fits inv.0 (row_after_sync 0 (row 514 old b)) lt full refl)
         | inr g ↦
-            subst (λ (zs : List ℕ). ChangesRows 514 (row_after_listed_sync (take (i + 1) list)) size xs zs) (sym (named ∙ cond-false _ _ _ (le-ltb b c.loop-b.rows.size g)))
+            subst (λ (zs : List ℕ). ChangesRows 514 (row_after_listed_sync (take (i + 1) list)) size xs zs)
+            (sym (named ∙ cond-false _ _ _ (le-ltb b c.loop-b.rows.size g)))
             (listed-past size xs old list i within fits inv.0 (omega (arith, g, inv.1)))
       ],
       c.sync_named.ensures.size ∙ inv.1,
@@ -38,7 +42,9 @@ loop-b-preserved c =
 
 pub returns : goal.returns
 returns c = record {
-  image = subst (λ (zs : List ℕ). ChangesRows 514 (row_after_listed_sync zs) c.args.rows.now.size c.args.rows.now.image.items c.loop-b.rows.image.items)
+  image =
+      subst
+      (λ (zs : List ℕ). ChangesRows 514 (row_after_listed_sync zs) c.args.rows.now.size c.args.rows.now.image.items c.loop-b.rows.image.items)
       (take_all c.loop-b.b-index c.args.list.now c.loop-b-test.false) c.loop-b.invariant.0;
   calls_left = c.loop-b.invariant.2;
 }

@@ -18,4 +18,5 @@ returns-clause-call g c =
     let whole : c.unwrap.result.now ≡ bytes = (rw c.unwrap.ensures at c.as_array.ensures.cases).same in
     let r = g.F.RowFormat.row_after_write (row w xs b) bytes in
     let shows = g.met.F.RowFormat.reads_back (row w xs b) bytes wide here.whole in
-    rw (c.store.ensures.image, c.store.ensures.calls_left, whole) (write-row w g.F.RowFormat.shown_bytes g.F.RowFormat.is_loose xs d.calls_left b bytes r ok (g.met.F.RowFormat.keeps_width (row w xs b) bytes wide here.whole) shows)
+    rw (c.store.ensures.image, c.store.ensures.calls_left, whole)
+    (write-row w g.F.RowFormat.shown_bytes g.F.RowFormat.is_loose xs d.calls_left b bytes r ok (g.met.F.RowFormat.keeps_width (row w xs b) bytes wide here.whole) shows)

@@ -12,6 +12,7 @@ returns-in-Some c =
     let list = c.in-Some.list.items in
     let named : ListsLoose list xs = rw c.in-Some.is at c.requires in
     record {
-      image = listed-all d.size xs ys list d.sized named (subst (λ (zs : List ℕ). ChangesRows 514 (row_after_listed_sync zs) d.size xs ys) c.as_slice.ensures.value c.sync_listed.ensures.image);
+      image = listed-all d.size xs ys list d.sized named
+          (subst (λ (zs : List ℕ). ChangesRows 514 (row_after_listed_sync zs) d.size xs ys) c.as_slice.ensures.value c.sync_listed.ensures.image);
       calls_left = c.sync_listed.ensures.calls_left;
     }
