@@ -1,5 +1,4 @@
-// Every cut: the calls of each case, the replies that they are to have, and where the replies
-// differ.
+// Every cut: the calls of its case, the expected replies, and where the replies differ.
 use crate::case::Case;
 use crate::kinds::{DeviceKind, ENOUGH_CALLS, PAIRS, RegisterKind};
 use crate::settlement::{TRADE, first_five, last_three, pay_in, rows};
@@ -29,8 +28,8 @@ const LAST_CALLS: u8 = 12;
 // and the sixth mark.
 const OPENING_CALLS: u32 = 12;
 
-// The fault of an instruction whose entry is cut after so many of its four calls. Entry k has its
-// record in block 1 + 2k and its mark in block 2 + 2k. A sync names no block.
+// The fault of an instruction whose entry is cut after so many of its four calls. The record of
+// entry k is block 1 + 2k, and its mark is the block after that. A sync names no block.
 fn cut_fault(entry: u32, calls_made: u8, trade: Option<u32>) -> Fault {
     let record = entry.saturating_mul(2).saturating_add(1);
     let block = match calls_made {
@@ -59,8 +58,7 @@ fn answer_at(calls_left: u8, place: u8) -> Result<(), Fault> {
     }
 }
 
-// Whether the instruction in hand stands. That is open only where its mark was written and not
-// synced.
+// Whether the instruction in hand stands: it can if its mark was written and not synced.
 fn hand_stands<D: DeviceKind>(cut: CutPoint) -> bool {
     cut.calls_left < LAST_CALLS && cut.calls_left % ENTRY_CALLS == 3 && D::keeps_mark(cut.remains)
 }

@@ -27,14 +27,16 @@ module _ (h : Rulebook) (pairs : ℕ) (few : pairs ≤ 32767) (t : Tally) (x : I
   L = blocks_for_books h pairs
 
   -- the entry that is written has the number that the tally's list gives it
-  as-counted : InEngine h pairs t v → WritesEntry (record_bytes v.entry_count x)
-      (mark_bytes v.entry_count) v.entry_count v.medium v'.medium
+  as-counted : InEngine h pairs t v
+      → WritesEntry (record_bytes v.entry_count x) (mark_bytes v.entry_count) v.entry_count v.medium v'.medium
       → WritesEntry (record_bytes (length t.list) x) (mark_bytes (length t.list)) (length t.list) v.medium v'.medium
   as-counted k e = subst (λ n. WritesEntry (record_bytes n x) (mark_bytes n) n v.medium v'.medium) k.entry_count e
 
+  -- its record reads back as the instruction
   read-back : length t.list < pairs → read_in (record_in (length t.list) (record_bytes (length t.list) x)) ≡ Some x
   read-back lt = ap read_in (record-read (length t.list) x (omega arith) fit)
 
+  -- with nothing in hand
   idle-journal : t.in_hand ≡ None → InEngine h pairs t v → Journal L v.medium t.list None
   idle-journal n k = subst (λ hand. Journal L v.medium t.list hand) n k.device.journal
 
@@ -47,8 +49,8 @@ module _ (h : Rulebook) (pairs : ℕ) (few : pairs ≤ 32767) (t : Tally) (x : I
   added p n k l a =
       let lt : length t.list < pairs = omega (arith, p.room, k.entry_count, k.room) in
       let run = more x k.runs p.accepted in
-      let made = entry-made L v.medium v'.medium t.list x lt (read-back lt) (as-counted k a.medium)
-      (idle-journal n k) l in
+      let entry = as-counted k a.medium in
+      let made = entry-made L v.medium v'.medium t.list x lt (read-back lt) entry (idle-journal n k) l in
       record {
         device = record {
           journal = subst (λ hand. Journal L v'.medium (t.list ++ (x ∷ [])) hand) (sym n) made;
@@ -90,8 +92,9 @@ module _ (h : Rulebook) (pairs : ℕ) (few : pairs ≤ 32767) (t : Tally) (x : I
       → Leaves c w x v v' → r ≡ and_then c (within_entry x v.entry_count w)
       → KeepsTallyBy h pairs t v l v.mode → KeepsTallyBy h pairs (after_instruct t x r) v' l v'.mode
   leads (Err f) w r ec ew same er k =
-      let still : after_instruct t x r ≡ t = ap (after_instruct t x) er
-      ∙ ap (λ b. cond b (record { list = t.list; in_hand = Some x }) t) (checked-calm h x v f ec) in
+      let with-x : Tally = record { list = t.list; in_hand = Some x } in
+      let still : after_instruct t x r ≡ t =
+      ap (after_instruct t x) er ∙ ap (λ b. cond b with-x t) (checked-calm h x v f ec) in
       subst (λ u. KeepsTallyBy h pairs u v' l v'.mode) (sym still)
       (subst (λ u. KeepsTallyBy h pairs t u l u.mode) (sym same) k)
   leads (Ok u) (Ok w) r ec ew a er k =
@@ -99,8 +102,7 @@ module _ (h : Rulebook) (pairs : ℕ) (few : pairs ≤ 32767) (t : Tally) (x : I
       let i = idle p k in
       let now : KeepsTallyBy h pairs (after_instruct t x (Ok tt)) v' l Open = (
         i.0,
-        added p i.0 i.1
-            (enter-done v.medium v.entry_count ew) a,
+        added p i.0 i.1 (enter-done v.medium v.entry_count ew) a,
       ) in
       subst (λ a. KeepsTallyBy h pairs (after_instruct t x a) v' l v'.mode) (sym er)
       (subst (λ m. KeepsTallyBy h pairs (after_instruct t x (Ok tt)) v' l m) (sym a.mode) now)
@@ -108,15 +110,17 @@ module _ (h : Rulebook) (pairs : ℕ) (few : pairs ≤ 32767) (t : Tally) (x : I
       let p = let-pass (sym ec) in
       let i = idle p k in
       let cut = enter-cut v.medium v.entry_count f ew in
-      let is13-still : is13 (fault_about x (in_entry v.entry_count f)).refusal ≡ true = ap is13
-      (about-refusal-as (names_trade (kind_at x.kind)) (in_entry v.entry_count f) x.trade) ∙ cut.0 in
-      let in-hand-now : after_instruct t x r ≡ record { list = t.list; in_hand = Some x } = ap
-      (after_instruct t x) er ∙ ap (λ b. cond b (record { list = t.list; in_hand = Some x }) t) is13-still in
-      let now : KeepsTallyBy h pairs (record { list = t.list; in_hand = Some x }) v' l
-      (Down x) = (refl, in-hand p i.0 i.1 cut.1 a) in
+      let fault = in_entry v.entry_count f in
+      let is13-still : is13 (fault_about x fault).refusal ≡ true =
+      ap is13 (about-refusal-as (names_trade (kind_at x.kind)) fault x.trade) ∙ cut.0 in
+      let with-x : Tally = record { list = t.list; in_hand = Some x } in
+      let in-hand-now : after_instruct t x r ≡ with-x =
+      ap (after_instruct t x) er ∙ ap (λ b. cond b with-x t) is13-still in
+      let now : KeepsTallyBy h pairs with-x v' l (Down x) = (refl, in-hand p i.0 i.1 cut.1 a) in
       subst (λ u. KeepsTallyBy h pairs u v' l v'.mode) (sym in-hand-now)
-      (subst (λ m. KeepsTallyBy h pairs (record { list = t.list; in_hand = Some x }) v' l m) (sym a.mode) now)
+      (subst (λ m. KeepsTallyBy h pairs with-x v' l m) (sym a.mode) now)
 
+  -- an instruction, whatever it is answered
   pub instructed : (r : Answer) → TakesInstruction h x v v' r → KeepsTallyBy h pairs t v l v.mode
       → KeepsTallyBy h pairs (after_instruct t x r) v' l v'.mode
   instructed r e k = leads (check_answer h x v)

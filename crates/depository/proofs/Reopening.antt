@@ -31,10 +31,12 @@ use Rattle.depository.specs.CallTally.{Tally, after_open, with_in_hand}
 use Rattle.depository.specs.Survival.{JudgesLastSlip}
 use Rattle.depository.proofs.KeepsTally.{SlipMatches, IsPairCount, OnDevice, InEngine, KeepsTallyBy}
 
+-- no option is both
 nothing-is-some : {X : Type 0} {x : X} → ◌≡◌ {A = Option X} None (Some x) → ⊥
 nothing-is-some e =
     cc
 
+-- an instruction has its own fields
 same-self : (x : Instruction) → same_fields x x ≡ true
 same-self x =
     rw (
@@ -96,6 +98,7 @@ module _ (h : Rulebook) (pairs : ℕ) (t : Tally) where
     zero_or_one = λ w e. absurd (nothing-is-some e);
   }
 
+  -- a verdict of 0 or 1
   abbrev IsUpheld : Result Verdict Refusal → Type 0
   IsUpheld p = (presented_number p ≡ 0) ⊎ (presented_number p ≡ 1)
 
@@ -108,8 +111,7 @@ module _ (h : Rulebook) (pairs : ℕ) (t : Tally) where
     judged = λ b same. let q : c ≡ b = cc in (
       w,
       ap (λ u. Some (Ok u)) e,
-      subst
-          (λ u. HasVerdict (Some u) v.found v.last_found w) q j,
+      subst (λ u. HasVerdict (Some u) v.found v.last_found w) q j,
     );
     zero_or_one = λ p same. let q : Ok w ≡ p = cc (e, same) in subst IsUpheld q up;
   }
@@ -147,6 +149,7 @@ module _ (h : Rulebook) (pairs : ℕ) (t : Tally) where
         judged = is-judged c v Stands stands (c, refl, n, (x, m.1 ∙ hand, is-last)) (inr refl);
       }
 
+  -- in either case
   agrees : (l : Option Contents) (v : View) (ys : List Instruction) → SlipMatches l t → Holding h pairs ys v
       → WithOrWithout t.list t.in_hand ys → Agrees l v ys
   agrees l v ys m g (inl e) = agrees-without l v ys m g.found e
@@ -167,6 +170,7 @@ module _ (h : Rulebook) (pairs : ℕ) (t : Tally) where
     pub refused : (f : Fault) → opening_answer v.mode ≡ Err f → number_of f.refusal ≡ 13
     pub prompt : 1 + 2 * pairs ≤ m.calls_left → opening_answer v.mode ≡ Ok tt
 
+  -- what `Reopens` says, by the mode
   abbrev KeepsAs : Option Contents → View → Mode → Type 0
   KeepsAs l v m = KeepsTallyBy h pairs (after_open t (opening_answer m) (slip_answer m v.found v.last_found l)) v
       (owed_after_open m l) m × SaysOfOpening l v m
@@ -189,18 +193,21 @@ module _ (h : Rulebook) (pairs : ℕ) (t : Tally) where
   kept-as w l v (Down x) k ml size f = absurd f
   kept-as w l v (Refused f) k ml size j = ((record { journal = j.1; lawful = k.lawful; size = size }, ml), j.0)
 
+  -- so in words: answered 0,
   says-judged : (l : Option Contents) (v : View) (m : Mode) → SaysOfOpening l v m → opening_answer m ≡ Ok tt
       → JudgesLastSlip l (answered m v l) v
   says-judged l v Open s e = s
   says-judged l v (Down x) s e = absurd s
   says-judged l v (Refused f) s e = absurd cc
 
+  -- and refused
   says-refused : (l : Option Contents) (v : View) (m : Mode) → SaysOfOpening l v m
       → (f : Fault) → opening_answer m ≡ Err f → number_of f.refusal ≡ 13
   says-refused l v Open s f e = absurd cc
   says-refused l v (Down x) s f e = absurd s
   says-refused l v (Refused g) s f e = let q : g ≡ f = cc in subst (λ (u : Fault). number_of u.refusal ≡ 13) q s
 
+  -- an opening of a device that keeps the tally
   pub reopened : (m : Medium) (l : Option Contents) → IsPairCount pairs → (h.book_kind securities).code < 256
       → (h.book_kind cash).code < 256 → IsBounded m → OnDevice h pairs t m → SlipMatches l t
       → Reopens m l (opening_view h m)

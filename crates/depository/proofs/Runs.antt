@@ -22,23 +22,33 @@ use Rattle.depository.specs.Paths.{Path, no_calls, first_call}
 
 -- a call to stand for what is past the end of a list of calls
 abbrev pub unasked : Call
-unasked = Instruct (record
-    { kind = 0; account = 0; counterparty = 0; item = 0; currency = 0; trade = 0; quantity = 0; amount = 0 })
+unasked = Instruct (record {
+  kind = 0;
+  account = 0;
+  counterparty = 0;
+  item = 0;
+  currency = 0;
+  trade = 0;
+  quantity = 0;
+  amount = 0;
+})
 
 -- the numbers of an order's instruction are no wider than its fields
 abbrev pub FitIn : Order → Type 0
 FitIn c = (x : Instruction) → c ≡ instruct_order x → IsEncodable x
 
+-- an order of an instruction that fits
 pub fit-of : (x : Instruction) → IsEncodable x → FitIn (instruct_order x)
 fit-of x fit y e = let q : x ≡ y = cc in subst IsEncodable q fit
 
 module _ {D : Type 0} (makes : D → DeviceCall → D → Type 0) (means : D → Medium) (h : Rulebook) (most : ℕ) where
+  -- one call more at the end
   one-more : {a m b : Moment} {d e f : D} {cs : List Order} {rs : List Reply} {c : Order} (r : Reply)
       → Path makes means h most a d cs rs m e → FitIn c → LeadsTo h most m c r b → UsesDevice makes h m.phase c e f
       → means f ≡ medium_in b.phase
       → Path makes means h most a d (cs ++ (c ∷ [])) (rs ++ (r ∷ [])) b f
-  one-more r (no_calls is) fit s hd then = first_call (record { means-it = is; fit = fit; does = s; uses = hd })
-      (no_calls then)
+  one-more r (no_calls is) fit s hd then =
+      first_call (record { means-it = is; fit = fit; does = s; uses = hd }) (no_calls then)
   one-more r' (first_call t p) fit s hd then = first_call t (one-more r' p fit s hd then)
 
   -- the call at the place i of a list of calls

@@ -49,6 +49,7 @@ abbrev pub Owes : Option Contents → Phase → Option Contents → Type 0
 Owes last_slip (running v) l = OwesBy last_slip v.mode l
 Owes last_slip (shut m books) l = l ≡ last_slip
 
+-- an option, or else another
 or-none : {X : Type 0} (o : Option X) → option_or o None ≡ o
 or-none None = refl
 or-none (Some x) = refl
@@ -57,6 +58,7 @@ or-or : {X : Type 0} (a b c : Option X) → option_or a (option_or b c) ≡ opti
 or-or None b c = refl
 or-or (Some x) b c = refl
 
+-- equal replies to an open say the same
 pub same-reply : {o o' : OpenReply} → ToOpen o ≡ ToOpen o' → o ≡ o'
 same-reply e = cc
 
@@ -139,6 +141,7 @@ module _ (h : Rulebook) (most pairs : ℕ) (p : IsPairCount pairs) (c₁ : (h.bo
       (reopened h pairs t m l p c₁ c₂ bounded k.0 k.1).kept
   kept-next t (shut m books) l (ask_order q) r b d fit bounded k = by-leads t (ask_order q) d k
 
+  -- how the tally goes on, call by call
   tally-none : (t : Tally) (rs : List Reply) → tally_from t [] rs ≡ t
   unfolding tally_from
   tally-none t rs = refl
@@ -148,67 +151,7 @@ module _ (h : Rulebook) (most pairs : ℕ) (p : IsPairCount pairs) (c₁ : (h.bo
   unfolding tally_from
   tally-more t c r cs rs = refl
 
-  -- What the law says, from what a moment keeps of its tally. First, of an engine that is open or
-  -- down: the standing list and the journal.
-  engine-by : (t : Tally) (v : View) (l : Option Contents) (m : Mode) → KeepsTallyBy h pairs t v l m
-      → opening_answer m ≡ Ok tt → InEngine h pairs t v
-  engine-by t v l Open k e = k.1
-  engine-by t v l (Down x) k e = k.1
-  engine-by t v l (Refused f) k e = absurd cc
-
-  engine-in : (t : Tally) (b : Moment) → KeepsTally h pairs t b → (v : View) → b.phase ≡ running v
-      → opening_answer v.mode ≡ Ok tt → InEngine h pairs t v
-  engine-in t b k v is e = engine-by t v b.owed v.mode (subst (λ a. KeepsTallyIn h pairs t a b.owed) is k) e
-
-  stands : (t : Tally) (v : View) → InEngine h pairs t v → IsStandingList h t.list v
-  stands t v k = record {
-    recorded = ap (standing_list v.medium) k.entry_count ∙ listed-is h pairs k.device.journal;
-    runs = k.runs;
-    determines = law-of-the-ledger h t.list v.standing k.runs;
-  }
-
-  journal-by : (t : Tally) (v : View) (l : Option Contents) (m : Mode) → KeepsTallyBy h pairs t v l m
-      → Journal (blocks_for_books h pairs) v.medium t.list t.in_hand
-  journal-by t v l Open k = k.1.device.journal
-  journal-by t v l (Down x) k = k.1.device.journal
-  journal-by t v l (Refused f) k = k.0.journal
-
-  journal-in : (t : Tally) (a : Phase) (l : Option Contents) → KeepsTallyIn h pairs t a l
-      → Journal (blocks_for_books h pairs) (medium_in a) t.list t.in_hand
-  journal-in t (running v) l k = journal-by t v l v.mode k
-  journal-in t (shut m books) l k = k.0.journal
-
-  -- what is in hand, by the engine's mode
-  idle-by : (t : Tally) (v : View) (l : Option Contents) (m : Mode) → KeepsTallyBy h pairs t v l m → m ≡ Open
-      → t.in_hand ≡ None
-  idle-by t v l Open k e = k.0
-  idle-by t v l (Down x) k e = absurd cc
-  idle-by t v l (Refused f) k e = absurd cc
-
-  hand-by : (t : Tally) (v : View) (l : Option Contents) (m : Mode) → KeepsTallyBy h pairs t v l m
-      → (x : Instruction) → m ≡ Down x → t.in_hand ≡ Some x
-  hand-by t v l Open k x e = absurd cc
-  hand-by t v l (Down y) k x e = let same : y ≡ x = cc in k.0 ∙ ap (λ (z : Instruction). Some z) same
-  hand-by t v l (Refused f) k x e = absurd cc
-
-  -- the slip that is owed tells the tally
-  tells : (t : Tally) (l : Option Contents) → SlipMatches l t → SlipTellsTally l t
-  tells t None k = record { no_slip = λ e. k; slip = λ c e. absurd cc }
-  tells t (Some d) k = record {
-    no_slip = λ e. absurd cc;
-    slip = λ c e. let same : d ≡ c = cc in (
-      sym (ap (λ (z : Contents). z.entries) same) ∙ k.0,
-      sym
-          (ap (λ (z : Contents). z.hand) same) ∙ k.1,
-    );
-  }
-
-  slip-in : (t : Tally) (last_slip : Option Contents) (a : Phase) (l : Option Contents) → KeepsTallyIn h pairs t a l
-      → Owes last_slip a l → (m : Medium) (books : Side → Holdings) → a ≡ shut m books → SlipTellsTally last_slip t
-  slip-in t last_slip (running v) l k o m books e = absurd cc
-  slip-in t last_slip (shut n others) l k o m books e = subst (λ u. SlipTellsTally u t) o (tells t l k.1)
-
-  -- the open that comes next: it is answered 0 if calls enough are left,
+  -- an open that leaves an engine open is accepted
   well : (m : Medium) (l : Option Contents) (r : Reply) → opening_answer (opening_view h m).mode ≡ Ok tt
       → r ≡ reply_to_open (opening_view h m) l → IsOpenAccepted r
   well m l r e is = (
@@ -227,39 +170,100 @@ module _ (h : Rulebook) (most pairs : ℕ) (p : IsPairCount pairs) (c₁ : (h.bo
   no-misfit : {o : OpenReply} → ToOpen o ≡ Misfit → ⊥
   no-misfit e = cc
 
-  enough : (t : Tally) (a : Phase) (l : Option Contents) → KeepsTally h pairs t (moment_in a l)
-      → IsBounded (medium_in a) → (m : Medium) (books : Side → Holdings) → a ≡ shut m books
-      → 1 + 2 * pairs ≤ m.calls_left
-      → (r : Reply) (z : Moment) → LeadsTo h most (moment_in a l) open_order r z → IsOpenAccepted r
-  enough t (running v) l k bounded m books e low r z d = absurd cc
-  enough t (shut n others) l k bounded m books e low r z d =
-      let same : n ≡ m = ap medium_in e in
-      let o = reopened h pairs t n l p c₁ c₂ bounded k.0 k.1 in
-      well n l r (o.prompt (subst (λ (u : Medium). 1 + 2 * pairs ≤ u.calls_left) (sym same) low)) d.reply
+  module _ (t : Tally) where
+    -- What the law says, from what a moment keeps of its tally. First, of an engine that is open or
+    -- down: the standing list and the journal.
+    engine-by : (v : View) (l : Option Contents) (m : Mode) → KeepsTallyBy h pairs t v l m
+        → opening_answer m ≡ Ok tt → InEngine h pairs t v
+    engine-by v l Open k e = k.1
+    engine-by v l (Down x) k e = k.1
+    engine-by v l (Refused f) k e = absurd cc
 
-  -- it is refused only with 13,
-  refused : (t : Tally) (a : Phase) (l : Option Contents) → KeepsTally h pairs t (moment_in a l)
-      → IsBounded (medium_in a) → (r : Reply) (z : Moment) → LeadsTo h most (moment_in a l) open_order r z
-      → (o : OpenReply) (f : Fault) → r ≡ ToOpen o → o.answer ≡ Err f → number_of f.refusal ≡ 13
-  refused t (running v) l k bounded r z d o f is e = absurd (no-misfit (sym is ∙ d.reply))
-  refused t (shut m books) l k bounded r z d o f is e =
-      let same = same-reply (sym d.reply ∙ is) in
-      (reopened h pairs t m l p c₁ c₂ bounded k.0 k.1).refused f (ap (λ (u : OpenReply). u.answer) same ∙ e)
+    engine-in : (b : Moment) → KeepsTally h pairs t b → (v : View) → b.phase ≡ running v
+        → opening_answer v.mode ≡ Ok tt → InEngine h pairs t v
+    engine-in b k v is e = engine-by v b.owed v.mode (subst (λ a. KeepsTallyIn h pairs t a b.owed) is k) e
 
-  -- and answered 0 it judges the slip that is owed
-  verdict : (t : Tally) (last_slip : Option Contents) (a : Phase) (l : Option Contents)
-      → KeepsTally h pairs t (moment_in a l) → Owes last_slip a l → IsBounded (medium_in a)
-      → (r : Reply) (z : Moment) → LeadsTo h most (moment_in a l) open_order r z
-      → (o : OpenReply) → r ≡ ToOpen o → o.answer ≡ Ok tt → (v : View) → z.phase ≡ running v
-      → JudgesLastSlip last_slip o v
-  verdict t last_slip (running w) l k owes bounded r z d o is e v gives = absurd (no-misfit (sym is ∙ d.reply))
-  verdict t last_slip (shut m books) l k owes bounded r z d o is e v gives =
-      let same = same-reply (sym d.reply ∙ is) in
-      let engine : opening_view h m ≡ v = same-engine (sym (ap (λ (n : Moment). n.phase) d.moment) ∙ gives) in
-      let j = (reopened h pairs t m l p c₁ c₂ bounded k.0 k.1).judged (ap (λ (u : OpenReply). u.answer) same ∙ e) in
-      let j₁ = subst (λ (u : OpenReply). JudgesLastSlip l u (opening_view h m)) same j in
-      let j₂ = subst (λ u. JudgesLastSlip l o u) engine j₁ in
-      subst (λ u. JudgesLastSlip u o v) owes j₂
+    stands : (v : View) → InEngine h pairs t v → IsStandingList h t.list v
+    stands v k = record {
+      recorded = ap (standing_list v.medium) k.entry_count ∙ listed-is h pairs k.device.journal;
+      runs = k.runs;
+      determines = law-of-the-ledger h t.list v.standing k.runs;
+    }
+
+    journal-by : (v : View) (l : Option Contents) (m : Mode) → KeepsTallyBy h pairs t v l m
+        → Journal (blocks_for_books h pairs) v.medium t.list t.in_hand
+    journal-by v l Open k = k.1.device.journal
+    journal-by v l (Down x) k = k.1.device.journal
+    journal-by v l (Refused f) k = k.0.journal
+
+    journal-in : (a : Phase) (l : Option Contents) → KeepsTallyIn h pairs t a l
+        → Journal (blocks_for_books h pairs) (medium_in a) t.list t.in_hand
+    journal-in (running v) l k = journal-by v l v.mode k
+    journal-in (shut m books) l k = k.0.journal
+
+    -- what is in hand, by the engine's mode
+    idle-by : (v : View) (l : Option Contents) (m : Mode) → KeepsTallyBy h pairs t v l m → m ≡ Open
+        → t.in_hand ≡ None
+    idle-by v l Open k e = k.0
+    idle-by v l (Down x) k e = absurd cc
+    idle-by v l (Refused f) k e = absurd cc
+
+    hand-by : (v : View) (l : Option Contents) (m : Mode) → KeepsTallyBy h pairs t v l m
+        → (x : Instruction) → m ≡ Down x → t.in_hand ≡ Some x
+    hand-by v l Open k x e = absurd cc
+    hand-by v l (Down y) k x e = let same : y ≡ x = cc in k.0 ∙ ap (λ (z : Instruction). Some z) same
+    hand-by v l (Refused f) k x e = absurd cc
+
+    -- the slip that is owed tells the tally
+    tells : (l : Option Contents) → SlipMatches l t → SlipTellsTally l t
+    tells None k = record { no_slip = λ e. k; slip = λ c e. absurd cc }
+    tells (Some d) k = record {
+      no_slip = λ e. absurd cc;
+      slip = λ c e. let same : d ≡ c = cc in (
+        sym (ap (λ (z : Contents). z.entries) same) ∙ k.0,
+        sym (ap (λ (z : Contents). z.hand) same) ∙ k.1,
+      );
+    }
+
+    slip-in : (last_slip : Option Contents) (a : Phase) (l : Option Contents) → KeepsTallyIn h pairs t a l
+        → Owes last_slip a l → (m : Medium) (books : Side → Holdings) → a ≡ shut m books → SlipTellsTally last_slip t
+    slip-in last_slip (running v) l k o m books e = absurd cc
+    slip-in last_slip (shut n others) l k o m books e = subst (λ u. SlipTellsTally u t) o (tells l k.1)
+
+    -- the open that comes next: it is answered 0 if calls enough are left,
+    enough : (a : Phase) (l : Option Contents) → KeepsTally h pairs t (moment_in a l)
+        → IsBounded (medium_in a) → (m : Medium) (books : Side → Holdings) → a ≡ shut m books
+        → 1 + 2 * pairs ≤ m.calls_left
+        → (r : Reply) (z : Moment) → LeadsTo h most (moment_in a l) open_order r z → IsOpenAccepted r
+    enough (running v) l k bounded m books e low r z d = absurd cc
+    enough (shut n others) l k bounded m books e low r z d =
+        let same : n ≡ m = ap medium_in e in
+        let o = reopened h pairs t n l p c₁ c₂ bounded k.0 k.1 in
+        well n l r (o.prompt (subst (λ (u : Medium). 1 + 2 * pairs ≤ u.calls_left) (sym same) low)) d.reply
+
+    -- it is refused only with 13,
+    refused : (a : Phase) (l : Option Contents) → KeepsTally h pairs t (moment_in a l)
+        → IsBounded (medium_in a) → (r : Reply) (z : Moment) → LeadsTo h most (moment_in a l) open_order r z
+        → (o : OpenReply) (f : Fault) → r ≡ ToOpen o → o.answer ≡ Err f → number_of f.refusal ≡ 13
+    refused (running v) l k bounded r z d o f is e = absurd (no-misfit (sym is ∙ d.reply))
+    refused (shut m books) l k bounded r z d o f is e =
+        let same = same-reply (sym d.reply ∙ is) in
+        (reopened h pairs t m l p c₁ c₂ bounded k.0 k.1).refused f (ap (λ (u : OpenReply). u.answer) same ∙ e)
+
+    -- and answered 0 it judges the slip that is owed
+    verdict : (last_slip : Option Contents) (a : Phase) (l : Option Contents)
+        → KeepsTally h pairs t (moment_in a l) → Owes last_slip a l → IsBounded (medium_in a)
+        → (r : Reply) (z : Moment) → LeadsTo h most (moment_in a l) open_order r z
+        → (o : OpenReply) → r ≡ ToOpen o → o.answer ≡ Ok tt → (v : View) → z.phase ≡ running v
+        → JudgesLastSlip last_slip o v
+    verdict last_slip (running w) l k owes bounded r z d o is e v gives = absurd (no-misfit (sym is ∙ d.reply))
+    verdict last_slip (shut m books) l k owes bounded r z d o is e v gives =
+        let same = same-reply (sym d.reply ∙ is) in
+        let engine : opening_view h m ≡ v = same-engine (sym (ap (λ (n : Moment). n.phase) d.moment) ∙ gives) in
+        let j = (reopened h pairs t m l p c₁ c₂ bounded k.0 k.1).judged (ap (λ (u : OpenReply). u.answer) same ∙ e) in
+        let j₁ = subst (λ (u : OpenReply). JudgesLastSlip l u (opening_view h m)) same j in
+        let j₂ = subst (λ u. JudgesLastSlip l o u) engine j₁ in
+        subst (λ u. JudgesLastSlip u o v) owes j₂
 
   module _ {D : Type 0} (makes : D → DeviceCall → D → Type 0) (means : D → Medium)
       (bounds : (x : D) → IsBounded (means x)) where
@@ -277,8 +281,8 @@ module _ (h : Rulebook) (most pairs : ℕ) (p : IsPairCount pairs) (c₁ : (h.bo
     kept-along t (no_calls {a = a} is) k = subst (λ u. KeepsTally h pairs u a) (sym (tally-none t [])) k
     kept-along t (first_call {a = a} {m = m} {b = b} {d = d} {c = c} {r = r} {cs = cs} {rs = rs} s q) k =
         subst (λ u. KeepsTally h pairs u b) (sym (tally-more t c r cs rs))
-        (kept-along (tally_after t c r) q (kept-next t a.phase a.owed c r m s.does s.fit
-        (bounded-in a.phase d s.means-it) k))
+        (kept-along (tally_after t c r) q
+        (kept-next t a.phase a.owed c r m s.does s.fit (bounded-in a.phase d s.means-it) k))
 
     module _ {a b : Moment} {d e : D} {cs : List Order} {rs : List Reply} (start : KeepsTally h pairs empty_tally a)
         (none : Owes None a.phase a.owed) (q : Path makes means h most a d cs rs b e) where

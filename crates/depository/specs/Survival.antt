@@ -40,7 +40,7 @@ use Rattle.depository.specs.Paths.{Path, last_known_slip}
 -- `SurvivalLaw` holds of every run, that is, of any calls after a format, with any answers that
 -- they can have. A cut of the power is a close and a restart among these calls. The law compares
 -- the depository with its tally (specs/CallTally): a list of instructions, and what is in hand.
--- Both follow from the calls and their answers alone, so whoever wrote those down knows what stands.
+-- Both follow from the calls and their answers alone: whoever wrote those down knows what stands.
 
 -- calls that are enough to open any device: an open reads each block at most once
 abbrev pub enough_to_open : ℕ
@@ -137,7 +137,7 @@ module _ (h : Rulebook) (most_calls pairs : ℕ) where
     -- opening was refused.
     pub journal : Journal (blocks_for_books h pairs) (medium_in moment.phase) t.list t.in_hand
 
--- Here `makes` is what the device's kind says of each device call, and `means` what a device means.
+-- Here `makes` is what the device's kind says of a device call, and `means` what a device means.
 module _ {D : Type 0} (makes : D → DeviceCall → D → Type 0) (means : D → Medium)
     (h : Rulebook) where
   -- A format of the device d is answered r, and leaves the device e.

@@ -50,7 +50,7 @@ pub enum Call<'a> {
     Close,
     /// Restarts the device, as after a cut of the power.
     Restart {
-        /// How many calls the device has left then, or its kind's largest number if that is smaller.
+        /// How many calls the device then has left, but no more than its kind's largest number.
         calls_left: u32,
         /// The bytes by which the device's kind says what its loose blocks hold then.
         remains: &'a [u8],

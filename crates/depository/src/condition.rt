@@ -14,8 +14,8 @@ pub enum Condition<D: PoweredDevice, R: Book, C: Book> {
     Shut(D, R, C),
 }
 
-/// One powered device with the same register and cash book throughout, from its format on. `serve`
-/// makes one.
+/// A device that is restarted after cuts of the power, with its two books, which stay the same.
+/// `serve` formats the device and makes the depository.
 ///
 /// It owes the last known closing slip until an engine judges it, and cannot be dropped while it
 /// owes one: `finish` files it.
