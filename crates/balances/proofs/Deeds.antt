@@ -8,16 +8,16 @@ use Rattle.book.specs.Rulings.{ruling, outcome, amount_answer, cover_answer}
 use Rattle.book.proofs.Totals.{amount-le-total}
 use Rattle.book.proofs.Accepted.{outcome-ok, answer-ok, covers-ok, credit-fits, block-accepted, move-accepted, stays-within}
 use Rattle.balances.specs.declared.table.Balances.{Balances}
-use Rattle.balances.specs.Rows.{balances_kind, holding_in, amounts, IsWholeTable, WithinCeiling}
+use Rattle.balances.specs.Rows.{balances_kind, holding_in, amounts, IsWholeTable, KeepsCeiling}
 use Rattle.balances.proofs.Put.{put, full-put, put-credit, put-block, put-lower}
 
 pub record Done (rows next : List (List Holding)) (w : Deed) : Type 0 where
   pub answer : Ok tt ≡ ruling balances_kind (amounts rows) w
   pub after : amounts next ≡ outcome balances_kind (amounts rows) w
   pub full : IsWholeTable next
-  pub within : WithinCeiling next
+  pub within : KeepsCeiling next
 
-done : (rows next : List (List Holding)) (w : Deed) → WithinCeiling rows → IsWholeTable next
+done : (rows next : List (List Holding)) (w : Deed) → KeepsCeiling rows → IsWholeTable next
     → Ok tt ≡ ruling balances_kind (amounts rows) w → amounts next ≡ apply (amounts rows) w → Done rows next w
 done rows next w within full e same = record {
   answer = e;

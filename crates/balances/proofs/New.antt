@@ -7,7 +7,7 @@ use Rattle.book.specs.Holdings.{nothing}
 use Rattle.book.proofs.Same.{holdings-same}
 use Rattle.book.proofs.Sums.{sum_below-zero}
 use Rattle.book.specs.Rulings.{no_holding}
-use Rattle.balances.specs.Rows.{holding_in, amounts, IsWholeTable, WithinCeiling}
+use Rattle.balances.specs.Rows.{holding_in, amounts, IsWholeTable, KeepsCeiling}
 
 abbrev pub fresh : List (List Holding)
 fresh = replicate 16 (replicate 64 no_holding)
@@ -35,5 +35,5 @@ fresh-full = (
       (get_or-replicate 16 i (replicate 64 no_holding) [] l) ∙ length-replicate 64 no_holding,
 )
 
-pub fresh-within : WithinCeiling fresh
+pub fresh-within : KeepsCeiling fresh
 fresh-within i = omega (arith, sum_below-zero 64 _ (λ a. ap (λ h. h.free + h.blocked) (at-fresh a i)))

@@ -27,6 +27,6 @@ IsWholeTable rows =
     × ((item : ℕ) → item < ITEMS → length (slice_index_or rows item []) ≡ ACCOUNTS)
 
 -- no item's total passes its limit
-abbrev pub WithinCeiling : List (List Holding) → Type 0
-WithinCeiling rows =
+abbrev pub KeepsCeiling : List (List Holding) → Type 0
+KeepsCeiling rows =
     (item : ℕ) → total (amounts rows) item ≤ limit balances_kind (amounts rows) item

@@ -1,5 +1,5 @@
-// The table alone: a struct with an invariant imports what its file does.
-ghost use Rattle.balances.specs.Rows.{IsWholeTable, WithinCeiling};
+// The table alone in a file: the invariants of a struct see the imports of its file, and those of `lib.rt` would be too many.
+ghost use Rattle.balances.specs.Rows.{IsWholeTable, KeepsCeiling};
 
 use book::{ACCOUNTS, Holding};
 
@@ -15,5 +15,5 @@ pub struct Balances {
     // By item and account.
     pub(crate) rows: [[Holding; ACCOUNTS as usize]; ITEMS as usize],
     ghost whole: { IsWholeTable rows },
-    ghost within_ceiling: { WithinCeiling rows },
+    ghost within_ceiling: { KeepsCeiling rows },
 }

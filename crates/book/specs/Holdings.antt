@@ -21,7 +21,7 @@ pub record BookKind : Type 0 where
 abbrev pub nothing : Holdings
 nothing = record { free = λ a i. 0; blocked = λ a i. 0 }
 
--- the most that this item may total
+-- the most that an item may total: the ceiling of the kind, for every item alike
 abbrev pub limit : BookKind → Holdings → ℕ → ℕ
 limit k b i = k.ceiling
 

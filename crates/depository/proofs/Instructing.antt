@@ -3,9 +3,9 @@ use Rattle.std.proofs.Common.{◌≡◌, ℕ, ◌+◌, ◌<◌, ◌≤◌, true,
 use Rattle.std.proofs.lemmas.List.{length_push}
 use Rattle.refusals.specs.Faults.{in_entry}
 use Rattle.instruction.specs.declared.Instruction.{Instruction}
-use Rattle.instruction.specs.Layout.{Fit}
+use Rattle.instruction.specs.Layout.{IsEncodable}
 use Rattle.instruction.specs.Kinds.{kind_at}
-use Rattle.rulebook.specs.Rules.{Rulebook, Standing, Runs, more, answer, fault_about, effect, names_trade}
+use Rattle.rulebook.specs.Rules.{Rulebook, Standing, AreAccepted, more, answer, fault_about, effect, names_trade}
 use Rattle.device.specs.Calls.{Answer, and_then}
 use Rattle.journal.specs.Journal.{JournalBlocks, Journal, WritesEntry, write_entry_answer}
 use Rattle.journal.specs.Blocks.{record_bytes, mark_bytes, record_in, read_in}
@@ -21,7 +21,7 @@ use Rattle.engine.proofs.Cuts.{is13, about-refusal-as, checked-calm, enter-cut, 
 use Rattle.depository.specs.CallTally.{Tally, after_instruct}
 use Rattle.depository.proofs.KeepsTally.{InEngine, KeepsTallyBy}
 
-module _ (h : Rulebook) (pairs : ℕ) (few : pairs ≤ 32767) (t : Tally) (x : Instruction) (fit : Fit x) (v v' : View)
+module _ (h : Rulebook) (pairs : ℕ) (few : pairs ≤ 32767) (t : Tally) (x : Instruction) (fit : IsEncodable x) (v v' : View)
     (l : Option Contents) where
   abbrev L : JournalBlocks Instruction
   L = blocks_for_books h pairs
@@ -55,7 +55,7 @@ module _ (h : Rulebook) (pairs : ℕ) (few : pairs ≤ 32767) (t : Tally) (x : I
           lawful = record { standing = effect v.standing x; runs = run; next = none-next (effect v.standing x) n };
           size = omega (arith, a.medium.size, k.device.size);
         };
-        runs = subst (λ s. Runs h (t.list ++ (x ∷ [])) s) (sym a.standing) run;
+        runs = subst (λ s. AreAccepted h (t.list ++ (x ∷ [])) s) (sym a.standing) run;
         room = a.pairs ∙ k.room;
         entry_count = a.entry_count ∙ ap (λ n. n + 1) k.entry_count ∙ sym (length_push t.list x);
       }
@@ -76,7 +76,7 @@ module _ (h : Rulebook) (pairs : ℕ) (few : pairs ≤ 32767) (t : Tally) (x : I
           };
           size = omega (arith, a.medium.size, k.device.size);
         };
-        runs = subst (λ s. Runs h t.list s) (sym a.standing) k.runs;
+        runs = subst (λ s. AreAccepted h t.list s) (sym a.standing) k.runs;
         room = a.pairs ∙ k.room;
         entry_count = a.entry_count ∙ k.entry_count;
       }

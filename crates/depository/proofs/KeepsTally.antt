@@ -1,6 +1,6 @@
 -- What keeps the tally of a depository: its device, its engine, and the slip that it owes.
 use Rattle.std.proofs.Common.{◌≡◌, ℕ, ◌+◌, ◌*◌, ◌≤◌, length, Some, None, Option}
-use Rattle.rulebook.specs.Rules.{Rulebook, Runs}
+use Rattle.rulebook.specs.Rules.{Rulebook, AreAccepted}
 use Rattle.device.specs.Medium.{Medium}
 use Rattle.journal.specs.Journal.{Journal}
 use Rattle.engine.specs.declared.engine.Mode.{Mode}
@@ -32,7 +32,7 @@ module _ (h : Rulebook) (pairs : ℕ) (t : Tally) where
   -- and so do the books and trades of the engine
   pub record InEngine (v : View) : Type 0 where
     pub device : OnDevice v.medium
-    pub runs : Runs h t.list v.standing
+    pub runs : AreAccepted h t.list v.standing
     pub room : v.pairs ≡ pairs
     pub entry_count : v.entry_count ≡ length t.list
 

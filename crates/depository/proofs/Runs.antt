@@ -2,7 +2,7 @@
 use Rattle.std.proofs.Common.{◌≡◌, ℕ, ◌+◌, ◌<◌, ◌≤◌, List, [], ◌∷◌, ◌++◌, length, get_or, map, take, sym, refl, subst}
 use Rattle.std.proofs.lemmas.List.{map_more, take_all}
 use Rattle.instruction.specs.declared.Instruction.{Instruction}
-use Rattle.instruction.specs.Layout.{Fit}
+use Rattle.instruction.specs.Layout.{IsEncodable}
 use Rattle.rulebook.specs.Rules.{Rulebook}
 use Rattle.depository.specs.declared.calls.Reply.{Reply}
 use Rattle.depository.specs.declared.calls.Call.{Call}
@@ -27,10 +27,10 @@ unasked = Instruct (record
 
 -- the numbers of an order's instruction are no wider than its fields
 abbrev pub FitIn : Order → Type 0
-FitIn c = (x : Instruction) → c ≡ instruct_order x → Fit x
+FitIn c = (x : Instruction) → c ≡ instruct_order x → IsEncodable x
 
-pub fit-of : (x : Instruction) → Fit x → FitIn (instruct_order x)
-fit-of x fit y e = let q : x ≡ y = cc in subst Fit q fit
+pub fit-of : (x : Instruction) → IsEncodable x → FitIn (instruct_order x)
+fit-of x fit y e = let q : x ≡ y = cc in subst IsEncodable q fit
 
 module _ {D : Type 0} (makes : D → DeviceCall → D → Type 0) (means : D → Medium) (h : Rulebook) (most : ℕ) where
   one-more : {a m b : Moment} {d e f : D} {cs : List Order} {rs : List Reply} {c : Order} (r : Reply)

@@ -4,7 +4,7 @@ use Rattle.std.specs.Option.{option_or}
 use Rattle.refusals.specs.declared.Fault.{Fault}
 use Rattle.refusals.specs.Numbers.{number_of}
 use Rattle.instruction.specs.declared.Instruction.{Instruction}
-use Rattle.instruction.specs.Layout.{Fit}
+use Rattle.instruction.specs.Layout.{IsEncodable}
 use Rattle.book.specs.Holdings.{Holdings}
 use Rattle.rulebook.specs.Terms.{Side, securities, cash}
 use Rattle.rulebook.specs.Rules.{Rulebook}
@@ -122,7 +122,7 @@ module _ (h : Rulebook) (most pairs : ℕ) (p : IsPairCount pairs) (c₁ : (h.bo
 
   -- each call leaves a moment that keeps the tally after it
   kept-next : (t : Tally) (a : Phase) (l : Option Contents) (c : Order) (r : Reply) (b : Moment)
-      → LeadsTo h most (moment_in a l) c r b → ((x : Instruction) → c ≡ instruct_order x → Fit x)
+      → LeadsTo h most (moment_in a l) c r b → ((x : Instruction) → c ≡ instruct_order x → IsEncodable x)
       → IsBounded (medium_in a) → KeepsTally h pairs t (moment_in a l)
       → KeepsTally h pairs (tally_after t c r) b
   kept-next t (running v) l (instruct_order x) r b d fit bounded k = by-leads t (instruct_order x) d.yields

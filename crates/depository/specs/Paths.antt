@@ -2,7 +2,7 @@
 use Rattle.std.specs.Prelude.{◌≡◌, ℕ, List, [], ◌∷◌, None, Option}
 use Rattle.std.specs.Option.{option_or}
 use Rattle.instruction.specs.declared.Instruction.{Instruction}
-use Rattle.instruction.specs.Layout.{Fit}
+use Rattle.instruction.specs.Layout.{IsEncodable}
 use Rattle.rulebook.specs.Rules.{Rulebook}
 use Rattle.device.specs.Medium.{Medium}
 use Rattle.device.specs.Traces.{DeviceCall}
@@ -21,7 +21,7 @@ module _ {D : Type 0} (makes : D → DeviceCall → D → Type 0) (means : D →
     -- the device means what the moment says
     pub means-it : means d ≡ medium_in a.phase
     -- an instruction's numbers are no wider than its fields
-    pub fit : (x : Instruction) → c ≡ instruct_order x → Fit x
+    pub fit : (x : Instruction) → c ≡ instruct_order x → IsEncodable x
     pub does : LeadsTo h most_calls a c r b
     pub uses : UsesDevice makes h a.phase c d e
 

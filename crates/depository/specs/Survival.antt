@@ -6,7 +6,7 @@ use Rattle.refusals.specs.Numbers.{number_of}
 use Rattle.instruction.specs.declared.Instruction.{Instruction}
 use Rattle.book.specs.Holdings.{Holdings}
 use Rattle.rulebook.specs.Terms.{Side}
-use Rattle.rulebook.specs.Rules.{Rulebook, Runs}
+use Rattle.rulebook.specs.Rules.{Rulebook, AreAccepted}
 use Rattle.rulebook.specs.Law.{Determines}
 use Rattle.rulebook.specs.Words.{LastsAreUnique}
 use Rattle.device.specs.declared.TheConstants.{MOST_BLOCKS}
@@ -61,7 +61,7 @@ pub record IsStandingList (h : Rulebook) (xs : List Instruction) (engine : View)
   -- that kind.)
   pub recorded : standing_list engine.medium engine.entry_count ≡ xs
   -- The rules accept them one after another, and so come to the engine's books and trades.
-  pub runs : Runs h xs engine.standing
+  pub runs : AreAccepted h xs engine.standing
   -- Each trade's state and terms are those that the list says. For each account and item, free and
   -- blocked together are its credits and what it received, less what it gave; and blocked is what
   -- its open trades hold.

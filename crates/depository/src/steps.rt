@@ -1,7 +1,7 @@
 // The calls, each as a function. What a depository is made of moves into an engine at an open and
 // out of it at a close. A misfit leaves it as it is.
 ghost use Rattle.std.specs.Prelude.{◌≡◌};
-ghost use Rattle.instruction.specs.Layout.{Fit};
+ghost use Rattle.instruction.specs.Layout.{IsEncodable};
 ghost use Rattle.ledger.specs.View.{rulebook_of};
 ghost use Rattle.engine.specs.View.{view};
 ghost use Rattle.depository.specs.Orders.{instruct_order, close_order, restart_order, open_order, ask_order};
@@ -39,7 +39,7 @@ impl<D: PoweredDevice, R: Book, C: Book> Depository<D, R, C> {
     // The clause `fit` is for the caller, which takes the instruction from a slice of calls: its
     // fields' ranges are not known there.
     pub(crate) fn instruct(&mut self, x: Instruction) -> Reply
-        ensures fit { Fit x }
+        ensures fit { IsEncodable x }
         ensures does { LeadsTo (rulebook_of R.book_kind C.book_kind) D.PoweredDevice.most_calls
             (moment_of self.old) (instruct_order x) result (moment_of self.new) }
         ensures device { UsesDevice D.makes (rulebook_of R.book_kind C.book_kind)

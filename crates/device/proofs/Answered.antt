@@ -1,6 +1,6 @@
 -- What a caller learns from an answer.
 use Rattle.std.proofs.Common.{◌≡◌, ℕ, ◌<◌, eqb, List, length, Ok, Err, sym, refl, ap, ◌∙◌, inl, inr, arith}
-use Rattle.std.proofs.lemmas.Bool.{cond-true, cond-false, lt-leb, eq-eqb, eqb-true, eqb-false, cases_Bool}
+use Rattle.std.proofs.lemmas.Bool.{not_from_true, cond-true, cond-false, lt-leb, eq-eqb, eqb-true, eqb-false, cases_Bool}
 use Rattle.refusals.specs.declared.Refusal.TheVariants.{NoCalls}
 use Rattle.refusals.specs.declared.Fault.{Fault}
 use Rattle.refusals.specs.Faults.{plain, at_block}
@@ -25,7 +25,7 @@ admit_answer-as size size' left b n e ok = ap (λ (k : ℕ). admit_answer k left
 pub refused : (size left b n : ℕ) (e : Fault) → Err e ≡ admit_answer size left b n → b < size → n ≡ 256
     → (e ≡ at_block NoCalls b) × (left ≡ 0)
 refused size left b n e h l w =
-    let p = cond-false _ _ _ (lt-leb size b l) ∙ cond-true _ _ _ (eq-eqb n 256 w) in
+    let p = cond-false _ _ _ (lt-leb size b l) ∙ cond-false _ _ _ (not_from_true _ (eq-eqb n 256 w)) in
     elim (cases_Bool (eqb left 0)) [
       | inl t ↦
           let q : Err e ≡ Err (at_block NoCalls b) = h ∙ p ∙ cond-true _ _ _ t in

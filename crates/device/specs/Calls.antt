@@ -1,6 +1,6 @@
 -- What the calls of a device answer and change: m is the device before the call, and m' the device
 -- after it.
-use Rattle.std.specs.Prelude.{◌≡◌, ℕ, ◌-◌, true, false, if◌then◌else◌, List, length, Some, None, Ok, Err, Option, Result, ◌==◌, ◌≢◌, nat_le}
+use Rattle.std.specs.Prelude.{◌≡◌, ℕ, ◌-◌, true, false, not, if◌then◌else◌, List, length, Some, None, Ok, Err, Option, Result, ◌==◌, ◌≢◌, nat_le}
 use Rattle.refusals.specs.Answers.{if_ok}
 use Rattle.refusals.specs.Numbers.{number_of}
 use Rattle.refusals.specs.declared.Fault.{Fault}
@@ -16,8 +16,8 @@ Answer = Result Unit Fault
 abbrev pub admit_answer : (size calls_left b n : ℕ) → Answer
 admit_answer size calls_left b n =
     if nat_le size b then Err (fault_at 11 b)
-    else (if n == BLOCK_SIZE then (if calls_left == 0 then Err (fault_at 13 b) else Ok tt)
-    else Err (fault_at 12 b))
+    else (if not (n == BLOCK_SIZE) then Err (fault_at 12 b)
+    else (if calls_left == 0 then Err (fault_at 13 b) else Ok tt))
 
 abbrev pub write_answer : (m : Medium) (b n : ℕ) → Answer
 write_answer m b n = admit_answer m.size m.calls_left b n

@@ -1,11 +1,11 @@
 //! A block device as an interface.
 //!
 //! [`Device`] says what a read, a write, a sync and the question for the size answer and change,
-//! and [`PoweredDevice`] what a restart leaves. Each promise is a contract of the trait (`Read`,
-//! `Write`, `Sync` and `Restart` in `specs/`), so code over any device is proved once. What only
+//! and [`PoweredDevice`] what a restart leaves. Each promise is a contract of the trait (by `Read`,
+//! `Write` and `Sync` in `specs/Calls`, and by four clauses of `restart`), so code over any device is proved once. What only
 //! one kind of device does is said by that kind, in `makes`.
 //!
-//! A device over another device needs this crate and no other: it states its own `medium` in terms
+//! A device over another device needs only this crate and `refusals`: it states its own `medium` in terms
 //! of the other's, and [`admit`] makes the checks that a read and a write share. docs/DEVICES.md
 //! says all this in words.
 #![tactic(auto)]
@@ -26,8 +26,7 @@ pub const BLOCK_SIZE: usize = 256;
 /// The largest number of blocks that a device may have.
 pub const MOST_BLOCKS: usize = 65535;
 
-/// The largest number of calls that a device may have left, and so the largest that a restart can
-/// be asked for.
+/// The largest number of calls that a device may have left.
 pub const MOST_CALLS: u32 = 4294967295;
 
 /// A fixed number of blocks, which are read, written and synced one call at a time while calls are

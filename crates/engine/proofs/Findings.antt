@@ -6,9 +6,9 @@ use Rattle.std.specs.Option.{unwrap_or}
 use Rattle.refusals.specs.declared.Refusal.{Refusal}
 use Rattle.refusals.specs.declared.Fault.{Fault}
 use Rattle.instruction.specs.declared.Instruction.{Instruction}
-use Rattle.instruction.specs.Layout.{Fit}
+use Rattle.instruction.specs.Layout.{IsEncodable}
 use Rattle.rulebook.specs.Terms.{securities, cash}
-use Rattle.rulebook.specs.Rules.{Rulebook, Standing, empty, answer, fault_answer, effect, Runs, start, more}
+use Rattle.rulebook.specs.Rules.{Rulebook, Standing, empty, answer, fault_answer, effect, AreAccepted, start, more}
 use Rattle.ledger.proofs.Carried.{accepts}
 use Rattle.device.specs.Medium.{Medium, IsBounded}
 use Rattle.device.specs.Calls.{SameBlocks}
@@ -112,7 +112,7 @@ module _ (h : Rulebook) (m : Medium) (b : IsBounded m) where
   record Prefix (k : ℕ) (s : Standing) (last : Option Instruction) : Type 0 where
     marks : (j : ℕ) → j < k → m.holds (mark_at j) ≡ Some (mark_bytes j)
     records : (j : ℕ) → j < k → m.holds (record_at j) ≡ Some (record_bytes j (entry_instruction m j))
-    list : Runs h (standing_list m k) s
+    list : AreAccepted h (standing_list m k) s
     is-last : last ≡ last_of (standing_list m k)
 
   none-read : Prefix 0 empty None
@@ -148,7 +148,7 @@ module _ (h : Rulebook) (m : Medium) (b : IsBounded m) where
             ⊎_elim (λ (i : j ≡ k). subst (λ n. m.holds (record_at n) ≡ Some (record_bytes n (entry_instruction m n)))
             (sym i) (e.entry ∙ ap (λ y. Some (record_bytes k y)) (sym e.says)))
             (λ ne. p.records j (omega arith)) (cases_eq j k);
-        list = subst (λ ys. Runs h ys (effect s x)) (sym list) (more x p.list e.accepted);
+        list = subst (λ ys. AreAccepted h ys (effect s x)) (sym list) (more x p.list e.accepted);
         is-last = sym (ap last_of list ∙ last-more (standing_list m k) x);
       }
 
@@ -354,7 +354,7 @@ listed-at m (suc n) k l =
     (omega (arith, listed-length m n)) ∙ listed-at m n k (omega arith))
     (cases_eq k n)
 
-fit-none : Fit no_instruction
+fit-none : IsEncodable no_instruction
 fit-none = record {
   kind = lit< tt;
   account = lit< tt;

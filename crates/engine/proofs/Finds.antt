@@ -9,7 +9,7 @@ use Rattle.refusals.specs.declared.Refusal.TheVariants.{NoCalls}
 use Rattle.refusals.specs.declared.Fault.{Fault}
 use Rattle.refusals.specs.Faults.{at_block, in_entry}
 use Rattle.instruction.specs.declared.Instruction.{Instruction}
-use Rattle.rulebook.specs.Rules.{Rulebook, Standing, empty, answer, with_trade, effect, Runs, start, more}
+use Rattle.rulebook.specs.Rules.{Rulebook, Standing, empty, answer, with_trade, effect, AreAccepted, start, more}
 use Rattle.device.specs.Medium.{Medium, IsBounded}
 use Rattle.journal.specs.Journal.{record_at, mark_at, MarkIsGood}
 use Rattle.journal.proofs.Survives.{Found}
@@ -31,7 +31,7 @@ follows-more : (h : Rulebook) (xs : List Instruction) (s t : Standing) (x : Inst
 follows-more h [] s t x f a = (subst (λ u. answer h u x ≡ Ok tt) f a, ap (λ u. effect u x) f)
 follows-more h (y ∷ xs) s t x f a = (f.0, follows-more h xs (effect s y) t x f.1 a)
 
-follows : (h : Rulebook) {xs : List Instruction} {s : Standing} → Runs h xs s → Follows h empty xs s
+follows : (h : Rulebook) {xs : List Instruction} {s : Standing} → AreAccepted h xs s → Follows h empty xs s
 follows h start = refl
 follows h (more {xs = xs} {s = s} x r e) = follows-more h xs empty s x (follows h r) e
 
@@ -175,7 +175,7 @@ module _ (h : Rulebook) (pairs : ℕ) (few : pairs ≤ 32767) (m : Medium) (b : 
 -- A recovery of a journal in which an opening finds ws, whose instructions lead to s, finds ws
 -- and leads there.
 pub calls-find : (h : Rulebook) (pairs : ℕ) (m : Medium) (ws : List Instruction) (s : Standing) → pairs ≤ 32767
-    → IsBounded m → Found (blocks_for_books h pairs) m ws → Runs h ws s
+    → IsBounded m → Found (blocks_for_books h pairs) m ws → AreAccepted h ws s
     → (calls : ℕ) → Ends (scan h pairs (with_calls_left calls m) 0 empty None) pairs calls ws s
 calls-find h pairs m ws s few b f r calls =
     recovers h pairs few m b ws f s pairs 0 calls empty None (omega arith) (omega arith) (follows h r) refl

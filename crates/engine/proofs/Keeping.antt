@@ -2,7 +2,7 @@
 use Rattle.std.proofs.Common.{◌≡◌, ℕ, ◌+◌, ◌*◌, ◌≤◌, ◌⊎◌, List, [], ◌∷◌, ◌++◌, length, Some, None, Ok, Option}
 use Rattle.refusals.specs.Numbers.{number_of}
 use Rattle.instruction.specs.declared.Instruction.{Instruction}
-use Rattle.rulebook.specs.Rules.{Rulebook, Standing, Runs, answer}
+use Rattle.rulebook.specs.Rules.{Rulebook, Standing, AreAccepted, answer}
 use Rattle.device.specs.Medium.{Medium}
 use Rattle.device.specs.Calls.{SameBlocks}
 use Rattle.journal.specs.Journal.{Journal}
@@ -15,7 +15,7 @@ use Rattle.engine.specs.StandingList.{blocks_for_books}
 -- the instructions of the list were accepted one after another, and so would be the one in hand
 pub record Lawful (h : Rulebook) (xs : List Instruction) (hand : Option Instruction) : Type 0 where
   pub standing : Standing
-  pub runs : Runs h xs standing
+  pub runs : AreAccepted h xs standing
   pub next : (x : Instruction) → hand ≡ Some x → answer h standing x ≡ Ok tt
 
 -- the list, or the list and what was in hand
@@ -25,7 +25,7 @@ WithOrWithout xs hand ys = (ys ≡ xs) ⊎ ((x : Instruction) × (hand ≡ Some 
 -- the engine is open with this list, which its device keeps with nothing in hand
 pub record Holding (h : Rulebook) (pairs : ℕ) (ys : List Instruction) (v : View) : Type 0 where
   pub journal : Journal (blocks_for_books h pairs) v.medium ys None
-  pub runs : Runs h ys v.standing
+  pub runs : AreAccepted h ys v.standing
   pub room : v.pairs ≡ pairs
   pub entry_count : v.entry_count ≡ length ys
   pub found : v.found ≡ length ys

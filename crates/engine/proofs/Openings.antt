@@ -8,7 +8,7 @@ use Rattle.refusals.specs.declared.Fault.{Fault}
 use Rattle.refusals.specs.Faults.{at_block}
 use Rattle.instruction.specs.declared.Instruction.{Instruction}
 use Rattle.rulebook.specs.Terms.{securities, cash}
-use Rattle.rulebook.specs.Rules.{Rulebook, Standing, empty, effect, Runs, more}
+use Rattle.rulebook.specs.Rules.{Rulebook, Standing, empty, effect, AreAccepted, more}
 use Rattle.device.specs.Medium.{Medium, IsBounded}
 use Rattle.device.specs.Calls.{SameBlocks}
 use Rattle.journal.specs.Journal.{JournalBlocks, mark_at, MarkIsGood, Says, Journal}
@@ -104,15 +104,15 @@ module _ (h : Rulebook) (pairs : ℕ) where
 
   -- it leads where the rules do
   leads-on : (xs : List Instruction) (hand : Option Instruction) (ws : List Instruction) → Lawful h xs hand
-      → WithOrWithout xs hand ws → (s : Standing) × Runs h ws s
-  leads-on xs hand ws a (inl e) = (a.standing, subst (λ ys. Runs h ys a.standing) (sym e) a.runs)
+      → WithOrWithout xs hand ws → (s : Standing) × AreAccepted h ws s
+  leads-on xs hand ws a (inl e) = (a.standing, subst (λ ys. AreAccepted h ys a.standing) (sym e) a.runs)
   leads-on xs hand ws a (inr (x, is, e)) =
-      (effect a.standing x, subst (λ ys. Runs h ys (effect a.standing x)) (sym e) (more x a.runs (a.next x is)))
+      (effect a.standing x, subst (λ ys. AreAccepted h ys (effect a.standing x)) (sym e) (more x a.runs (a.next x is)))
 
   -- a recovery of that list, by its answer
   scan-opens : (m : Medium) (xs : List Instruction) (hand : Option Instruction) (ws : List Instruction)
       (s : Standing) (z : Scan) → pairs ≤ 32767 → 0 < m.calls_left → Journal L m xs hand
-      → WithOrWithout xs hand ws → Journal L m ws None → Runs h ws s → Ends z pairs (m.calls_left - 1) ws s
+      → WithOrWithout xs hand ws → Journal L m ws None → AreAccepted h ws s → Ends z pairs (m.calls_left - 1) ws s
       → (r : Result FoundEntries Fault) → z.outcome ≡ r
       → OpenedOn h pairs m xs hand (outcome_view r pairs (with_calls_left z.calls_left m) z.standing)
   scan-opens m xs hand ws s z few l j which kept runs ends (Ok found) e =
@@ -127,7 +127,7 @@ module _ (h : Rulebook) (pairs : ℕ) where
           which,
           record {
             journal = looking L m (with_calls_left z.calls_left m) ws None kept (fewer-calls m z.calls_left) fewer;
-            runs = subst (λ t. Runs h ws t) (sym o.1) runs;
+            runs = subst (λ t. AreAccepted h ws t) (sym o.1) runs;
             room = refl;
             entry_count = ap (λ (f : FoundEntries). f.count) o.0;
             found = ap (λ (f : FoundEntries). f.count) o.0;

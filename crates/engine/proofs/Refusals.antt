@@ -12,7 +12,7 @@ use Rattle.device.specs.Medium.{Medium, IsBounded}
 use Rattle.journal.specs.declared.header.Header.{Header}
 use Rattle.journal.specs.Journal.{record_at, mark_at}
 use Rattle.journal.specs.Blocks.{header_bytes, header_in, record_bytes, record_in}
-use Rattle.journal.specs.Reading.{IsProperHeader, ReadsHeader, ReadsRecord}
+use Rattle.journal.specs.Decoding.{IsProperHeader, ReadsHeader, ReadsRecord}
 use Rattle.journal.proofs.Trips.{reads-header, reads-record}
 use Rattle.journal.specs.Entries.{after_reads, as_entry_fault, is_good, read_record_answer, record_block_answer, with_calls_left}
 use Rattle.journal.specs.Headers.{fitting_pairs, header_block_answer, header_pairs, read_header_answer}

@@ -7,7 +7,7 @@ use Rattle.refusals.specs.Numbers.{number_of}
 use Rattle.refusals.proofs.Numbered.{numbers_tell_apart}
 use Rattle.engine.specs.declared.slip.Verdict.{Verdict}
 use Rattle.engine.specs.declared.slip.Verdict.TheVariants.{Same, Stands, Unknown, Differs}
-use Rattle.engine.specs.ClosingSlip.{verdict_number, presented_number, PresentedApart}
+use Rattle.engine.specs.ClosingSlip.{verdict_number, presented_number, PresentedNumbersDiffer}
 
 -- the verdict with this number, if any has it
 abbrev verdict_at : ℕ → Verdict
@@ -40,5 +40,5 @@ apart (Err r) (Ok v) e =
     absurd (both_ways (is_verdict (number_of r)) (refusal-is-not r) (ap is_verdict e ∙ verdict-is v))
 apart (Err r) (Err s) e = ap (λ x. Err x) (numbers_tell_apart.apart r s e)
 
-pub presented_apart : PresentedApart
+pub presented_apart : PresentedNumbersDiffer
 presented_apart = apart

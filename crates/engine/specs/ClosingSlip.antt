@@ -29,7 +29,7 @@ verdict_number Stands = 1
 verdict_number Unknown = 53
 verdict_number Differs = 54
 
--- the part of the house that gives them
+-- the place of each: the engine
 abbrev pub verdict_place : Verdict → Place
 verdict_place Same = Engine
 verdict_place Stands = Engine
@@ -42,8 +42,8 @@ presented_number (Ok v) = verdict_number v
 presented_number (Err r) = number_of r
 
 -- no two of these answers share a number
-abbrev pub PresentedApart : Type 0
-PresentedApart =
+abbrev pub PresentedNumbersDiffer : Type 0
+PresentedNumbersDiffer =
     (a b : Result Verdict Refusal) → presented_number a ≡ presented_number b → a ≡ b
 
 abbrev pub same_fields : Instruction → Instruction → Bool

@@ -4,14 +4,14 @@ use Rattle.refusals.specs.Numbers.{number_of}
 use Rattle.refusals.specs.declared.Refusal.{Refusal}
 use Rattle.refusals.specs.declared.Fault.{Fault}
 use Rattle.instruction.specs.declared.Instruction.{Instruction}
-use Rattle.instruction.specs.Layout.{Fit}
+use Rattle.instruction.specs.Layout.{IsEncodable}
 use Rattle.rulebook.specs.Terms.{securities, cash}
-use Rattle.rulebook.specs.Rules.{Rulebook, Standing, empty, answer, Runs}
+use Rattle.rulebook.specs.Rules.{Rulebook, Standing, empty, answer, AreAccepted}
 use Rattle.device.specs.Medium.{Medium}
 use Rattle.journal.specs.declared.header.Header.{Header}
 use Rattle.journal.specs.Journal.{record_at, mark_at}
 use Rattle.journal.specs.Blocks.{header_bytes, record_bytes, mark_bytes}
-use Rattle.journal.specs.Reading.{IsProperHeader}
+use Rattle.journal.specs.Decoding.{IsProperHeader}
 use Rattle.journal.specs.Headers.{Fits}
 use Rattle.engine.specs.declared.engine.Mode.{Mode}
 use Rattle.engine.specs.declared.engine.Mode.TheVariants.{Open, Down, Refused}
@@ -36,7 +36,7 @@ pub record EntriesStand (h : Rulebook) (m : Medium) (pairs n : ℕ) (s : Standin
   pub records : (k : ℕ) → k < n
       → m.holds (record_at k) ≡ Some (record_bytes k (entry_instruction m k))
   -- the rules accept those instructions one after another, and they lead to s
-  pub list : Runs h (standing_list m n) s
+  pub list : AreAccepted h (standing_list m n) s
 
 -- An engine whose opening was answered 0 found these entries.
 pub record FindsEntries (h : Rulebook) (m : Medium) (v : View) : Type 0 where
@@ -101,7 +101,7 @@ pub data RefusesEntry (h : Rulebook) (m : Medium) (k : ℕ) (s : Standing) (f : 
   -- the mark is good, and its block is the record of no instruction
   malformed : HasGoodMark m k → 2 + 2 * k < m.calls_left → (bs : List ℕ)
       → m.holds (record_at k) ≡ Some bs
-      → ((x : Instruction) → Fit x → record_bytes k x ≢ bs)
+      → ((x : Instruction) → IsEncodable x → record_bytes k x ≢ bs)
       → IsFault 46 None (Some k) f → RefusesEntry h m k s f
   -- the mark is good, and the rules refuse the instruction of its record
   rules-refuse : HasGoodMark m k → 2 + 2 * k < m.calls_left → (x : Instruction)

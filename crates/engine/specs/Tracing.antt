@@ -15,30 +15,30 @@ use Rattle.engine.specs.View.{View}
 use Rattle.engine.specs.Opening.{opening_view}
 use Rattle.engine.specs.Instructing.{check_answer}
 
--- those of an instruction: none where a check refuses it
+-- the calls of an instruction: none where a check refuses it
 abbrev pub instruct_calls : Rulebook → Instruction → View → List DeviceCall
 instruct_calls h x v =
     if_ok (check_answer h x v) (write_entry_calls v.entry_count x v.medium.calls_left) []
 
--- the mark and the record of each of the first n entries, one entry after another
+-- reading the first n entries, one after another: the mark and the record of each
 unfoldable pub entry_reads : ℕ → List DeviceCall
 entry_reads zero = []
 entry_reads (suc n) = entry_reads n ++ (block_read (mark_at n) ∷ block_read (record_at n) ∷ [])
 
--- of entry k: its mark, and its record unless the mark ends the list
+-- reading entry k: its mark, and its record unless the mark ends the list
 abbrev pub turn_reads : Result (Option Instruction) Fault → ℕ → List DeviceCall
 turn_reads (Ok None) k = block_read (mark_at k) ∷ []
 turn_reads (Ok (Some x)) k = block_read (mark_at k) ∷ block_read (record_at k) ∷ []
 turn_reads (Err f) k = block_read (mark_at k) ∷ block_read (record_at k) ∷ []
 
--- of a list that ended well: its entries, and the mark that is not good where there is another
--- pair
+-- reading a list that was not refused: its entries, and, where it has fewer than the pairs, the
+-- mark that ends it
 abbrev pub list_reads : ℕ → ℕ → List DeviceCall
 list_reads found pairs =
     entry_reads found ++ (if nat_lt found pairs then block_read (mark_at found) ∷ [] else [])
 
--- of one that was refused: the entries up to the one that the fault names; none where it names
--- none, since then the header was refused
+-- reading a list that was refused: the entries up to the one that the fault names; none where the
+-- fault names no entry, since the header was refused then
 abbrev pub refused_reads : Option ℕ → List DeviceCall
 refused_reads None = []
 refused_reads (Some k) = entry_reads (k + 1)

@@ -42,7 +42,7 @@ impl<D: Device, R: Book, C: Book> Engine<D, R, C> {
     ///
     /// - 41: the opening was refused.
     /// - 42: the engine is down.
-    /// - 21 to 26 of a book, 30 to 35 of the trades: the rules refuse the instruction.
+    /// - 21 to 25 of a book, 30 to 35 of the trades: the rules refuse the instruction.
     /// - 36: all entries of the journal are used.
     /// - 13, with the entry, and with the block of a write: no call was left to write the entry.
     ///   The engine is then down, with the instruction in hand.

@@ -1,4 +1,4 @@
-//! The engine: one text over any device and any two books.
+//! The engine, over any device and any two books.
 //!
 //! It takes a device and two books, finds the list of entries in the device's journal, and from
 //! then on writes each instruction that the rules accept into the journal before it carries it

@@ -1,6 +1,6 @@
 // The closing slip, which is owed until it is presented or filed, and the verdict on one.
 ghost use Rattle.std.specs.Prelude.{◌≡◌, true, is_some};
-ghost use Rattle.engine.specs.ClosingSlip.{contents, IsOwed, slip_verdict, HasVerdict, verdict_number, verdict_place, presented_number, PresentedApart, is_last_found};
+ghost use Rattle.engine.specs.ClosingSlip.{contents, IsOwed, slip_verdict, HasVerdict, verdict_number, verdict_place, presented_number, PresentedNumbersDiffer, is_last_found};
 
 use instruction::Instruction;
 use refusals::{Place, Refusal};
@@ -33,12 +33,12 @@ impl Verdict {
     #[tactic(auto, using(crate::proofs::Verdicts::presented_apart))]
     pub fn number(self) -> u8
         ensures value { result ≡ verdict_number self }
-        ensures apart { PresentedApart }
+        ensures apart { PresentedNumbersDiffer }
     {
         self as u8
     }
 
-    /// The part of the house that gives verdicts.
+    /// The place of every verdict: the engine.
     pub fn place(self) -> Place
         ensures { result ≡ verdict_place self }
     {

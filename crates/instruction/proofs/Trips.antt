@@ -6,9 +6,9 @@ use Rattle.little_endian.specs.Little.{le_bytes, bytes_from}
 use Rattle.little_endian.proofs.Widths.{le-bytes, part-back, part-whole}
 use Rattle.refusals.specs.declared.Refusal.TheVariants.{Malformed}
 use Rattle.instruction.specs.declared.Instruction.{Instruction}
-use Rattle.instruction.specs.Layout.{bytes_of, instruction_in, fields_in, unused_zero, IsInstruction, LiesAt, LaidOut, Reads, Fit}
+use Rattle.instruction.specs.Layout.{bytes_of, instruction_in, fields_in, unused_zero, IsInstruction, LiesAt, IsLaidOut, Reads, IsEncodable}
 
-pub there : (i : Instruction) → Fit i → instruction_in (bytes_of i) ≡ Ok i
+pub there : (i : Instruction) → IsEncodable i → instruction_in (bytes_of i) ≡ Ok i
 there i f =
     let a = le-bytes 2 i.account f.account in
     let b = le-bytes 2 i.counterparty f.counterparty in
@@ -70,7 +70,7 @@ part-at bs at (suc w) (suc k) l =
 lies : (bs : List ℕ) (at w n : ℕ) → bytes_from at w bs ≡ le_bytes w n → LiesAt bs at w n
 lies bs at w n e k l = sym (part-at bs at w k l) ∙ ap (λ t. get_or t k 0) e ∙ byte-at w n k l
 
-pub laid-out : (i : Instruction) → LaidOut (bytes_of i) i
+pub laid-out : (i : Instruction) → IsLaidOut (bytes_of i) i
 laid-out i = record {
   whole = record { long = refl; one = refl; ten = refl; eleven = refl };
   kind = refl;
@@ -90,7 +90,7 @@ reads-cases : (bs : List ℕ) → ((i : ℕ) → get_or bs i 0 < 256) → (t : B
     → Reads bs (cond t (Ok (fields_in bs)) (Err Malformed))
 reads-cases bs h true e =
     let b = laid-back bs h (is-instruction bs e) in
-    (subst (λ c. LaidOut c (fields_in bs)) b (laid-out (fields_in bs)), b)
+    (subst (λ c. IsLaidOut c (fields_in bs)) b (laid-out (fields_in bs)), b)
 reads-cases bs h false e = (refl, λ s. let z : true ≡ false = sym (passes bs s) ∙ e in cc)
 
 pub reads : (bs : List ℕ) → ((i : ℕ) → get_or bs i 0 < 256) → Reads bs (instruction_in bs)

@@ -79,7 +79,7 @@ abbrev pub LiesAt : List ℕ → ℕ → ℕ → ℕ → Type 0
 LiesAt bs at w n = (k : ℕ) → k < w → slice_index_or bs (at + k) 0 ≡ (n / (2 ^ 8) ^ k) % 2 ^ 8
 
 -- The layout, place by place: the law above `bytes_of`, which shares no place or width with it.
-pub record LaidOut (bs : List ℕ) (i : Instruction) : Type 0 where
+pub record IsLaidOut (bs : List ℕ) (i : Instruction) : Type 0 where
   pub whole : IsInstruction bs
   pub kind : slice_index_or bs 0 0 ≡ i.kind
   pub account : LiesAt bs 2 2 i.account
@@ -92,11 +92,11 @@ pub record LaidOut (bs : List ℕ) (i : Instruction) : Type 0 where
 
 -- what `from_bytes` answers: the one instruction that has these bytes, or that there is none
 abbrev pub Reads : List ℕ → Result Instruction Refusal → Type 0
-Reads bs (Ok i) = LaidOut bs i × (bytes_of i ≡ bs)
+Reads bs (Ok i) = IsLaidOut bs i × (bytes_of i ≡ bs)
 Reads bs (Err r) = (number_of r ≡ 46) × (IsInstruction bs → ⊥)
 
 -- each field fits its type, as in every instruction of the code
-pub record Fit (i : Instruction) : Type 0 where
+pub record IsEncodable (i : Instruction) : Type 0 where
   pub kind : i.kind < 2 ^ 8
   pub account : i.account < 2 ^ 16
   pub counterparty : i.counterparty < 2 ^ 16

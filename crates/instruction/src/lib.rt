@@ -2,13 +2,13 @@
 //!
 //! Instructions and their bytes match one to one: `to_bytes` promises it by its clauses `laid_out`
 //! and `read_back`, `from_bytes` by `exact`. Which fields a kind uses is stated once, by
-//! `Kind::uses`; the clause `law` of `has_stray_field` says it again, field by field.
+//! `Kind::uses`. The clause `law` of `has_stray_field` guards it, field by field, in words of its own.
 #![tactic(auto)]
 
 ghost use Rattle.std.specs.Prelude.{◌≡◌, ◌+◌, ◌≤◌, length, Ok};
 ghost use Rattle.instruction.specs.Kinds.{code_of, Decodes, KindsAndCodes};
 ghost use Rattle.instruction.specs.Fields.{value_of, uses, has_stray, StrayLaw};
-ghost use Rattle.instruction.specs.Layout.{of_kind, on_trade, bytes_of, instruction_in, number_at, LaidOut, Reads};
+ghost use Rattle.instruction.specs.Layout.{of_kind, on_trade, bytes_of, instruction_in, number_at, IsLaidOut, Reads};
 
 use little_endian::LittleEndian;
 use refusals::Refusal;
@@ -188,7 +188,7 @@ impl Instruction {
     /// The instruction's bytes: docs/LAYOUTS.md has the layout.
     pub fn to_bytes(self) -> [u8; INSTRUCTION_SIZE]
         ensures value { result ≡ bytes_of self }
-        ensures laid_out { LaidOut result self }
+        ensures laid_out { IsLaidOut result self }
         ensures read_back { instruction_in result ≡ Ok self }
     {
         let [a0, a1]: [u8; 2] = self.account.to_little_endian();

@@ -8,13 +8,13 @@ use Rattle.refusals.specs.Numbers.{number_of}
 use Rattle.refusals.specs.declared.Refusal.{Refusal}
 use Rattle.refusals.specs.declared.Refusal.TheVariants.{NotAHeader, Malformed}
 use Rattle.instruction.specs.declared.Instruction.{Instruction}
-use Rattle.instruction.specs.Layout.{instruction_in, unused_zero, number_at, Reads, Fit}
+use Rattle.instruction.specs.Layout.{instruction_in, unused_zero, number_at, Reads, IsEncodable}
 use Rattle.instruction.proofs.Trips.{there, reads}
 use Rattle.device.proofs.Bytes.{cut-bytes}
 use Rattle.journal.specs.declared.TheConstants.{MOST_PAIRS}
 use Rattle.journal.specs.declared.header.Header.{Header}
 use Rattle.journal.specs.Blocks.{zeros, header_bytes, header_in, is_header, mark_bytes, is_mark, record_bytes, record_in, is_record, all_zero}
-use Rattle.journal.specs.Reading.{IsProperHeader, ReadsHeader, ReadsMark, ReadsRecord}
+use Rattle.journal.specs.Decoding.{IsProperHeader, ReadsHeader, ReadsMark, ReadsRecord}
 
 pub zeros-no-mark : (k : ℕ) → k < 2 ^ 32 → zeros ≡ mark_bytes k → ⊥
 zeros-no-mark k h e =
@@ -31,7 +31,7 @@ mark-is k h =
     (le-bytes 4 (4294967295 - k) (omega arith)) in
     rw (a, b)
 
-pub record-read : (k : ℕ) (x : Instruction) → k < 2 ^ 32 → Fit x → record_in k (record_bytes k x) ≡ Ok x
+pub record-read : (k : ℕ) (x : Instruction) → k < 2 ^ 32 → IsEncodable x → record_in k (record_bytes k x) ≡ Ok x
 record-read k x h f =
     let a : eqb (le_number (le_bytes 4 k)) k ≡ true = eq-eqb _ _ (le-bytes 4 k h) in
     rw a (there x f)

@@ -16,7 +16,7 @@ pub record JournalBlocks (X : Type 0) : Type 0 where
   pub entry : ℕ → X → List ℕ
   -- what a block says as the record of an entry, if anything
   pub read : ℕ → List ℕ → Option X
-  -- stands for what no entry says
+  -- what a look-up past the list gives
   pub blank : X
 
 -- the block of the record of entry k

@@ -1,6 +1,6 @@
 pub mod Journal
 pub mod Blocks
-pub mod Reading
+pub mod Decoding
 pub mod Format
 pub mod Places
 pub mod Entries

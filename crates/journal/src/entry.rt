@@ -4,7 +4,7 @@ ghost use Rattle.std.specs.Prelude.{◌≡◌, ◌<◌};
 ghost use Rattle.journal.specs.Blocks.{mark_bytes, is_mark, record_bytes, record_in};
 ghost use Rattle.journal.specs.Journal.{record_at, mark_at};
 ghost use Rattle.journal.specs.Places.{MarkPlaces, RecordPlaces};
-ghost use Rattle.journal.specs.Reading.{ReadsMark, ReadsRecord};
+ghost use Rattle.journal.specs.Decoding.{ReadsMark, ReadsRecord};
 
 use crate::MOST_PAIRS;
 use device::BLOCK_SIZE;

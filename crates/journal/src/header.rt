@@ -2,7 +2,7 @@
 ghost use Rattle.std.specs.Prelude.{◌≡◌};
 ghost use Rattle.journal.specs.Blocks.{header_bytes, header_in};
 ghost use Rattle.journal.specs.Places.{HeaderPlaces};
-ghost use Rattle.journal.specs.Reading.{ReadsHeader};
+ghost use Rattle.journal.specs.Decoding.{ReadsHeader};
 
 use crate::MOST_PAIRS;
 use crate::zeros::all_zero;

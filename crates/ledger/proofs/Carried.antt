@@ -17,7 +17,7 @@ use Rattle.rulebook.specs.declared.Terms.{Terms}
 use Rattle.rulebook.specs.declared.Trade.{Trade}
 use Rattle.rulebook.specs.Table.{Act, state_after, may_start, next_state}
 use Rattle.rulebook.specs.Terms.{terms_of, Side, securities, cash}
-use Rattle.rulebook.specs.Rules.{Rulebook, Standing, all_checks, answer_as, answer, with_trade, fault_answer, updated, states_after, is_enter, terms_after, deed, effect, IsReachable}
+use Rattle.rulebook.specs.Rules.{Rulebook, Standing, all_checks, answer_as, answer, with_trade, fault_answer, set_at, states_after, is_enter, terms_after, deed, effect, IsReachable}
 use Rattle.rulebook.specs.Law.{FollowsRules}
 use Rattle.ledger.specs.declared.parts.Parts.{Parts}
 use Rattle.ledger.specs.View.{rulebook_of, standing_in, book_after}
@@ -34,14 +34,14 @@ next-after k o e = rw e
 
 -- one row of the table replaced
 module _ (rows : List Trade) (t : ℕ) (trade : Trade) (whole : length rows ≡ 128) (low : t < 128) where
-  pub put-state : (u : ℕ) → state_at (rows_with rows t trade) u ≡ updated (state_at rows) t trade.state u
+  pub put-state : (u : ℕ) → state_at (rows_with rows t trade) u ≡ set_at (state_at rows) t trade.state u
   put-state u = grind (arith, common_steps, nat_tests, get_or-set_at {X = Trade})
 
-  pub put-terms : (u : ℕ) → terms_at (rows_with rows t trade) u ≡ updated (terms_at rows) t trade.terms u
+  pub put-terms : (u : ℕ) → terms_at (rows_with rows t trade) u ≡ set_at (terms_at rows) t trade.terms u
   put-terms u = grind (arith, common_steps, nat_tests, get_or-set_at {X = Trade})
 
 -- replacing a trade's terms with themselves changes nothing
-same-terms : (f : ℕ → Terms) (t u : ℕ) → updated f t (f t) u ≡ f u
+same-terms : (f : ℕ → Terms) (t u : ℕ) → set_at f t (f t) u ≡ f u
 same-terms f t u = grind (arith, nat_tests)
 
 -- the table after an accepted instruction
@@ -66,7 +66,7 @@ module _ (rows : List Trade) (x : Instruction) (whole : length rows ≡ 128) whe
       let q : v.terms ≡ terms_at rows x.trade = cond-false (is_enter k) (terms_of x) (terms_at rows x.trade) i in
       rw (moved k p e w) (record {
         states = λ u. put-state rows x.trade v whole l u ∙ ap (λ a. states_after a (state_at rows) x.trade u) (sym e);
-        terms = λ u. put-terms rows x.trade v whole l u ∙ ap (λ m. updated (terms_at rows) x.trade m u) q
+        terms = λ u. put-terms rows x.trade v whole l u ∙ ap (λ m. set_at (terms_at rows) x.trade m u) q
             ∙ same-terms (terms_at rows) x.trade u ∙ ap (λ b. terms_after b (terms_at rows) x u) (sym i);
       })
 

@@ -1,4 +1,4 @@
-//! The parts of a ledger: its trades and its two books, wherever they stand.
+//! The parts of a ledger, its trades and its two books, without the ledger's invariant.
 ghost use Rattle.std.specs.Prelude.{◌≡◌};
 ghost use Rattle.rulebook.specs.Rules.{empty};
 ghost use Rattle.ledger.specs.View.{standing_in};

@@ -1,4 +1,4 @@
-// The table alone: a struct with an invariant imports what its file does.
+// The table alone in a file: the invariants of a struct see the imports of its file, and those of `lib.rt` would be too many.
 ghost use Rattle.lots.specs.Owners.{IsWholeTable, AccountsOwn};
 
 // How many items the book has, numbered from 0.

@@ -37,7 +37,7 @@ impl fmt::Display for Place {
         match self {
             Place::Device => write!(f, "device"),
             Place::Book => write!(f, "book"),
-            Place::Trades => write!(f, "rules"),
+            Place::Trades => write!(f, "trades"),
             Place::Journal => write!(f, "journal"),
             Place::Engine => write!(f, "engine"),
             Place::Script => write!(f, "script"),
@@ -52,9 +52,9 @@ pub enum Refusal {
     NoBlock = 11,
     /// 12: the buffer is not of one block's size.
     NotABlock = 12,
-    /// 13: the device has no calls left before the power fails.
+    /// 13: the device has no call left: power is gone.
     NoCalls = 13,
-    /// 14: the block was torn by a cut of the power, and cannot be read until it is written again.
+    /// 14: the block is unreadable. A write of the block makes it readable.
     Unreadable = 14,
     /// 21: an account is none of the book's.
     NoAccount = 21,
@@ -84,7 +84,7 @@ pub enum Refusal {
     JournalFull = 36,
     /// 41: the engine's opening was refused.
     OpeningRefused = 41,
-    /// 42: the engine is down, since its device refused a call.
+    /// 42: the engine is down: power went while it wrote an entry.
     EngineDown = 42,
     /// 43: block 0 holds no header.
     NotAHeader = 43,

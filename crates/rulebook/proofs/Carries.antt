@@ -10,7 +10,7 @@ use Rattle.rulebook.specs.declared.State.{State}
 use Rattle.rulebook.specs.declared.Terms.{Terms}
 use Rattle.rulebook.specs.Table.{Act, may_start}
 use Rattle.rulebook.specs.Terms.{Side, securities, cash, giver, taker, asset, volume}
-use Rattle.rulebook.specs.Rules.{Rulebook, Standing, has_blocked, all_checks, is_enter, deed, Runs}
+use Rattle.rulebook.specs.Rules.{Rulebook, Standing, has_blocked, all_checks, is_enter, deed, AreAccepted}
 use Rattle.rulebook.specs.Law.{BooksAccept}
 use Rattle.rulebook.proofs.Checks.{passes, cleared, right, settle-from, was-entered}
 use Rattle.rulebook.proofs.Safe.{Proper, Safe, safe}
@@ -92,6 +92,6 @@ module _ (h : Rulebook) (s : Standing) (z : Safe h s) (x : Instruction) where
       (λ (y : has_blocked d o ≡ false). rw y) (cases_Bool (has_blocked d o))
   takes None d o e p = refl
 
-pub books-accept : (h : Rulebook) (xs : List Instruction) (s : Standing) (x : Instruction) → Runs h xs s
+pub books-accept : (h : Rulebook) (xs : List Instruction) (s : Standing) (x : Instruction) → AreAccepted h xs s
     → BooksAccept h s x
 books-accept h xs s x r e d = takes h s (safe h xs s r) x (kind_at x.kind) d (s.state x.trade) refl e

@@ -9,7 +9,7 @@ use Rattle.rulebook.specs.declared.State.{State}
 use Rattle.rulebook.specs.declared.State.TheVariants.{Earmarked, Funded, Settled}
 use Rattle.rulebook.specs.declared.Terms.{Terms}
 use Rattle.rulebook.specs.Terms.{Side, securities, cash}
-use Rattle.rulebook.specs.Tally.{trades, share, outflow, inflow, hold}
+use Rattle.rulebook.specs.Flows.{trades, share, outflow, inflow, hold}
 use Rattle.rulebook.proofs.Replay.{give_of, take_of, hold_of, over}
 
 both : (b c : Bool) (q : ℕ) → cond b (cond c q 0) 0 ≡ amount_if (b && c) q

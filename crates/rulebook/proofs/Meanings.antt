@@ -11,17 +11,17 @@ use Rattle.rulebook.specs.declared.State.TheVariants.{Entered, Earmarked, Funded
 use Rattle.rulebook.specs.declared.Terms.{Terms}
 use Rattle.rulebook.specs.Table.{state_after, may_start, next_state, TradeSteps}
 use Rattle.rulebook.specs.Terms.{terms_of}
-use Rattle.rulebook.specs.Rules.{Rulebook, Standing, all_checks, answer, updated, states_after, effect}
+use Rattle.rulebook.specs.Rules.{Rulebook, Standing, all_checks, answer, set_at, states_after, effect}
 use Rattle.rulebook.specs.Words.{IsOn, IsEnterOn, HasNo, IsLast, IsStateAfter, StatesTerms, LastsAreUnique}
 use Rattle.rulebook.proofs.Bytes.{by-byte}
 use Rattle.rulebook.proofs.Replay.{read_state, read_terms}
 use Rattle.rulebook.proofs.Checks.{right, enter-code}
 use Rattle.rulebook.proofs.Tables.{state-table}
 
-at-same : {Y : Type 0} (f : ℕ → Y) (t u : ℕ) (v : Y) → t ≡ u → updated f t v u ≡ v
+at-same : {Y : Type 0} (f : ℕ → Y) (t u : ℕ) (v : Y) → t ≡ u → set_at f t v u ≡ v
 at-same f t u v e = cond-true (eqb t u) v (f u) (eq-eqb t u e)
 
-at-other : {Y : Type 0} (f : ℕ → Y) (t u : ℕ) (v : Y) → (t ≡ u → ⊥) → updated f t v u ≡ f u
+at-other : {Y : Type 0} (f : ℕ → Y) (t u : ℕ) (v : Y) → (t ≡ u → ⊥) → set_at f t v u ≡ f u
 at-other f t u v ne = cond-false (eqb t u) v (f u) (ne_eqb t u ne)
 
 -- an instruction of another trade, or of none, leaves this one's state

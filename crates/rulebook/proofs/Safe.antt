@@ -11,8 +11,8 @@ use Rattle.rulebook.specs.declared.State.TheVariants.{Unentered, Entered}
 use Rattle.rulebook.specs.declared.Terms.{Terms}
 use Rattle.rulebook.specs.Table.{Act, state_after}
 use Rattle.rulebook.specs.Terms.{terms_of, Side, securities, cash, giver, taker, asset, volume}
-use Rattle.rulebook.specs.Rules.{Rulebook, Standing, has_blocked, all_checks, updated, states_after, is_enter, terms_after, Runs, start, more}
-use Rattle.rulebook.specs.Tally.{credits}
+use Rattle.rulebook.specs.Rules.{Rulebook, Standing, has_blocked, all_checks, set_at, states_after, is_enter, terms_after, AreAccepted, start, more}
+use Rattle.rulebook.specs.Flows.{credits}
 use Rattle.rulebook.proofs.Checks.{cleared, right, was-entered}
 use Rattle.rulebook.proofs.Step.{covers}
 use Rattle.rulebook.proofs.Whole.{fair}
@@ -32,12 +32,12 @@ pub record Safe (h : Rulebook) (s : Standing) : Type 0 where
       → volume d (s.terms t) ≤ (s.book d).blocked (giver d (s.terms t)) (asset d (s.terms t))
 
 module _ (P : Terms → Type 0) (st : ℕ → State) (tm : ℕ → Terms) (h : (t : ℕ) → (st t ≡ Unentered) ⊎ P (tm t)) where
-  set-entered : (t : ℕ) (m : Terms) → P m → (u : ℕ) → (updated st t Entered u ≡ Unentered) ⊎ P (updated tm t m u)
+  set-entered : (t : ℕ) (m : Terms) → P m → (u : ℕ) → (set_at st t Entered u ≡ Unentered) ⊎ P (set_at tm t m u)
   set-entered t m p u =
       ⊎_elim (λ (e : eqb t u ≡ true). inr (rw e p)) (λ (e : eqb t u ≡ false). rw e (h u)) (cases_Bool (eqb t u))
 
   set-on : (t : ℕ) (old new : State) → st t ≡ old → (old ≡ Unentered → ⊥) → (u : ℕ)
-      → (updated st t new u ≡ Unentered) ⊎ P (tm u)
+      → (set_at st t new u ≡ Unentered) ⊎ P (tm u)
   set-on t old new e ne u =
       ⊎_elim (λ (y : eqb t u ≡ true).
       ⊎_elim (λ n. absurd (ne (sym e ∙ ap st (eqb-true t u y) ∙ n))) (λ p. inr p) (h u))
@@ -74,7 +74,7 @@ module _ (h : Rulebook) where
       set-on (Proper h) s.state s.terms q x.trade o _ e
       (was-entered k o refl (right h k o (s.terms x.trade) s x tt p).from)
 
-  proper : {xs : List Instruction} {s : Standing} → Runs h xs s → (t : ℕ)
+  proper : {xs : List Instruction} {s : Standing} → AreAccepted h xs s → (t : ℕ)
       → (s.state t ≡ Unentered) ⊎ Proper h (s.terms t)
   proper start t = inl refl
   proper (more {s = s} x r e) t = proper-step s x (proper r) (kind_at x.kind) (s.state x.trade) refl e t
@@ -84,7 +84,7 @@ module _ (h : Rulebook) where
   unentered-blocks-none cash = refl
 
   -- what a trade has blocked is there
-  blocked-there : {xs : List Instruction} {s : Standing} → Runs h xs s → (d : Side) (t : ℕ) (o : State) → t < 128
+  blocked-there : {xs : List Instruction} {s : Standing} → AreAccepted h xs s → (d : Side) (t : ℕ) (o : State) → t < 128
       → s.state t ≡ o → has_blocked d o ≡ true → volume d (s.terms t) ≤ (s.book d).blocked (giver d (s.terms t))
       (asset d (s.terms t))
   blocked-there {xs} {s} r d t o l e ho =
@@ -96,5 +96,5 @@ module _ (h : Rulebook) where
       (eq-eqb (giver d m) (giver d m) refl, eq-eqb (asset d m) (asset d m) refl) in
       omega (arith, q, w)
 
-pub safe : (h : Rulebook) (xs : List Instruction) (s : Standing) → Runs h xs s → Safe h s
+pub safe : (h : Rulebook) (xs : List Instruction) (s : Standing) → AreAccepted h xs s → Safe h s
 safe h xs s r = record { proper = proper h r; covered = λ d t l y. blocked-there h r d t (s.state t) l refl y }

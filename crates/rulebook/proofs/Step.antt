@@ -11,7 +11,7 @@ use Rattle.rulebook.specs.declared.State.TheVariants.{Entered, Earmarked, Funded
 use Rattle.rulebook.specs.declared.Terms.{Terms}
 use Rattle.rulebook.specs.Table.{Act, state_after}
 use Rattle.rulebook.specs.Terms.{Side, securities, cash, giver, taker, asset, volume}
-use Rattle.rulebook.specs.Rules.{Rulebook, Standing, has_blocked, all_checks, updated, states_after, is_enter, terms_after, deed}
+use Rattle.rulebook.specs.Rules.{Rulebook, Standing, has_blocked, all_checks, set_at, states_after, is_enter, terms_after, deed}
 use Rattle.rulebook.proofs.Replay.{is_settled, give_of, take_of, hold_of, over}
 use Rattle.rulebook.proofs.Checks.{cleared, right, Idle, enter-idle, entered-idle, earmark-idle, fund-from, settle-from, free-from}
 use Rattle.book.proofs.Totals.{enough}
@@ -33,7 +33,7 @@ module _ (d : Side) (b : Holdings) (st : ℕ → State) (tm : ℕ → Terms) (cr
 
   -- nothing is blocked or released
   pub blocks-same : (blocked : Bool) → is_settled old ≡ false → is_settled new ≡ false → has_blocked d old ≡ blocked
-      → has_blocked d new ≡ blocked → Fair d b (updated st t new) tm cr a i
+      → has_blocked d new ≡ blocked → Fair d b (set_at st t new) tm cr a i
   blocks-same blocked so sn ho hn =
       let g = shift-if is_settled out st tm t old new false false so sn e l in
       let k = shift-if is_settled inn st tm t old new false false so sn e l in
@@ -42,7 +42,7 @@ module _ (d : Side) (b : Holdings) (st : ℕ → State) (tm : ℕ → Terms) (cr
 
   pub blocks : is_settled old ≡ false → is_settled new ≡ false → has_blocked d old ≡ false
       → has_blocked d new ≡ true → volume d (tm t) ≤ b.free (giver d (tm t)) (asset d (tm t))
-      → Fair d (apply b (blocking (giver d (tm t)) (asset d (tm t)) (volume d (tm t)))) (updated st t new) tm cr a i
+      → Fair d (apply b (blocking (giver d (tm t)) (asset d (tm t)) (volume d (tm t)))) (set_at st t new) tm cr a i
   blocks so sn ho hn q =
       let g = shift-if is_settled out st tm t old new false false so sn e l in
       let k = shift-if is_settled inn st tm t old new false false so sn e l in
@@ -52,7 +52,7 @@ module _ (d : Side) (b : Holdings) (st : ℕ → State) (tm : ℕ → Terms) (cr
 
   pub releases : is_settled old ≡ false → is_settled new ≡ false → has_blocked d old ≡ true
       → has_blocked d new ≡ false → Fair d (apply b (releasing (giver d (tm t)) (asset d (tm t)) (volume d (tm t))))
-      (updated st t new) tm cr a i
+      (set_at st t new) tm cr a i
   releases so sn ho hn =
       let g = shift-if is_settled out st tm t old new false false so sn e l in
       let k = shift-if is_settled inn st tm t old new false false so sn e l in
@@ -61,7 +61,7 @@ module _ (d : Side) (b : Holdings) (st : ℕ → State) (tm : ℕ → Terms) (cr
 
   pub moves : is_settled old ≡ false → is_settled new ≡ true → has_blocked d old ≡ true → has_blocked d new ≡ false
       → Fair d (apply b (moving (giver d (tm t)) (taker d (tm t)) (asset d (tm t)) (volume d (tm t))))
-      (updated st t new) tm cr a i
+      (set_at st t new) tm cr a i
   moves so sn ho hn =
       let g = shift-if is_settled out st tm t old new false true so sn e l in
       let k = shift-if is_settled inn st tm t old new false true so sn e l in
@@ -77,7 +77,7 @@ module _ (d : Side) (b : Holdings) (st : ℕ → State) (tm : ℕ → Terms) (cr
 -- a trade is entered, from a state that adds nothing
 pub entering : (d : Side) (b : Holdings) (st : ℕ → State) (tm : ℕ → Terms) (cr a i t : ℕ) (old : State) (m : Terms)
     → Idle d old → Idle d Entered → st t ≡ old → Fair d b st tm cr a i
-    → Fair d b (updated st t Entered) (updated tm t m) cr a i
+    → Fair d b (set_at st t Entered) (set_at tm t m) cr a i
 entering d b st tm cr a i t old m io ie e h =
     let g = enters (give_of d a i) old (λ m. rw io.unsettled) (λ m. refl) st tm t m e in
     let k = enters (take_of d a i) old (λ m. rw io.unsettled) (λ m. refl) st tm t m e in
@@ -164,10 +164,10 @@ module _ (h : Rulebook) (s : Standing) (x : Instruction) (a i : ℕ) where
       uncredited _ _ _ _ _ _ _ n c
       (⊎_elim (λ (y : has_blocked d o ≡ true). subst
       (λ v. Fair d (apply (s.book d) (cond v (releasing (giver d m) (asset d m) (volume d m)) no_change))
-      (updated s.state x.trade Freed) s.terms cr a i) (sym y)
+      (set_at s.state x.trade Freed) s.terms cr a i) (sym y)
       (releases d (s.book d) s.state s.terms cr a i x.trade o Freed r.low e f w refl y (freed-blocks-none d)))
       (λ (y : has_blocked d o ≡ false). subst (λ v. Fair d
       (apply (s.book d) (cond v (releasing (giver d m) (asset d m) (volume d m)) no_change))
-      (updated s.state x.trade Freed) s.terms cr a i) (sym y)
+      (set_at s.state x.trade Freed) s.terms cr a i) (sym y)
       (blocks-same d (s.book d) s.state s.terms cr a i x.trade o Freed r.low e f false w refl y (freed-blocks-none d)))
       (cases_Bool (has_blocked d o)))

@@ -8,9 +8,9 @@ use Rattle.book.proofs.Sums.{sum_below-zero}
 use Rattle.rulebook.specs.declared.State.TheVariants.{Unentered}
 use Rattle.rulebook.specs.Table.{state_after}
 use Rattle.rulebook.specs.Terms.{no_terms, Side, securities, cash}
-use Rattle.rulebook.specs.Rules.{Rulebook, Standing, states_after, is_enter, terms_after, Runs, start, more}
+use Rattle.rulebook.specs.Rules.{Rulebook, Standing, states_after, is_enter, terms_after, AreAccepted, start, more}
 use Rattle.rulebook.proofs.Replay.{read_state, state_in, read_terms, terms_in, give_of, take_of, hold_of}
-use Rattle.rulebook.specs.Tally.{credit, credits}
+use Rattle.rulebook.specs.Flows.{credit, credits}
 use Rattle.rulebook.proofs.Fields.{outflows-is, inflows-is, holds-is}
 use Rattle.rulebook.proofs.Meanings.{stay, after-last, stated-last}
 use Rattle.rulebook.specs.Words.{IsStateAfter, StatesTerms}
@@ -22,13 +22,13 @@ credit-code securities x a i = grind arith
 credit-code cash x a i = grind arith
 
 module _ (h : Rulebook) where
-  pub state-is : {xs : List Instruction} {s : Standing} → Runs h xs s → s.state ≡ state_in xs
+  pub state-is : {xs : List Instruction} {s : Standing} → AreAccepted h xs s → s.state ≡ state_in xs
   state-is start = refl
   state-is (more {xs = xs} {s = s} x r e) =
       ap (λ f. states_after (state_after (kind_at x.kind)) f x.trade) (state-is r)
       ∙ sym (fold_push read_state (λ t. Unentered) xs x)
 
-  pub terms-is : {xs : List Instruction} {s : Standing} → Runs h xs s → s.terms ≡ terms_in xs
+  pub terms-is : {xs : List Instruction} {s : Standing} → AreAccepted h xs s → s.terms ≡ terms_in xs
   terms-is start = refl
   terms-is (more {xs = xs} {s = s} x r e) =
       ap (λ f. terms_after (is_enter (kind_at x.kind)) f x) (terms-is r)
@@ -45,7 +45,7 @@ module _ (h : Rulebook) where
       none-blocked securities = refl
       none-blocked cash = refl
 
-  pub fair : {xs : List Instruction} {s : Standing} → Runs h xs s → (d : Side) (a i : ℕ)
+  pub fair : {xs : List Instruction} {s : Standing} → AreAccepted h xs s → (d : Side) (a i : ℕ)
       → Fair d (s.book d) s.state s.terms (credits a i d xs) a i
   fair start d a i = fair-start d a i
   fair (more {xs = xs} {s = s} x r e) d a i =

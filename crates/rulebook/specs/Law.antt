@@ -6,8 +6,8 @@ use Rattle.book.specs.Rulings.{ruling}
 use Rattle.rulebook.specs.declared.State.TheVariants.{Unentered}
 use Rattle.rulebook.specs.Terms.{Side}
 use Rattle.rulebook.specs.Table.{TradeSteps}
-use Rattle.rulebook.specs.Rules.{Rulebook, Standing, Runs, IsReachable, answer, step, deed}
-use Rattle.rulebook.specs.Tally.{credits, outflows, inflows, holds}
+use Rattle.rulebook.specs.Rules.{Rulebook, Standing, AreAccepted, IsReachable, answer, step, deed}
+use Rattle.rulebook.specs.Flows.{credits, outflows, inflows, holds}
 use Rattle.rulebook.specs.Words.{IsOn, IsEnterOn, HasNo, IsLast, IsStateAfter, StatesTerms}
 
 -- The law stands apart from the rules that it guards. What a list of instructions says of a trade
@@ -39,7 +39,7 @@ pub record Determines (xs : List Instruction) (s : Standing) : Type 0 where
 -- the empty standing on, determines the standing to which it leads.
 abbrev pub LawOfTheLedger : Type 0
 LawOfTheLedger =
-    (h : Rulebook) (xs : List Instruction) (s : Standing) → Runs h xs s → Determines xs s
+    (h : Rulebook) (xs : List Instruction) (s : Standing) → AreAccepted h xs s → Determines xs s
 
 -- Where the rules accept an instruction, each book accepts what they have it do: a Settle or a
 -- Free never finds too little blocked.

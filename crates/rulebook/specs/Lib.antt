@@ -1,6 +1,6 @@
 pub mod Table
 pub mod Terms
 pub mod Rules
-pub mod Tally
+pub mod Flows
 pub mod Law
 pub mod Words

@@ -50,7 +50,7 @@ states_with_blocked cash = Funded ∷ []
 abbrev pub has_blocked : Side → State → Bool
 has_blocked d o = is_among o (states_with_blocked d)
 
--- A rule book says which kinds of instruction it knows. Every rule book knows all seven.
+-- the rules know this kind of instruction: all seven, in every rule book
 abbrev pub knows_kind : Rulebook → Act → Bool
 knows_kind h None = false
 knows_kind h (Some k) = true
@@ -140,13 +140,13 @@ abbrev pub fault_answer : Rulebook → Standing → Instruction → Result (Unit
 fault_answer h s x = with_trade x (answer h s x)
 
 -- the function f, with the value v at t
-abbrev pub updated : {X : Type 0} → (ℕ → X) → ℕ → X → ℕ → X
-updated f t v u = if t == u then v else f u
+abbrev pub set_at : {X : Type 0} → (ℕ → X) → ℕ → X → ℕ → X
+set_at f t v u = if t == u then v else f u
 
 -- the states of all trades, with trade t in its new state, if it has one
 abbrev pub states_after : Option State → (ℕ → State) → ℕ → ℕ → State
 states_after None f t = f
-states_after (Some s) f t = updated f t s
+states_after (Some s) f t = set_at f t s
 
 abbrev pub is_enter : Act → Bool
 is_enter (Some Enter) = true
@@ -154,7 +154,7 @@ is_enter k = false
 
 -- the terms of all trades after an instruction: an Enter (true) sets those of its trade
 abbrev pub terms_after : Bool → (ℕ → Terms) → Instruction → ℕ → Terms
-terms_after true f x = updated f x.trade (terms_of x)
+terms_after true f x = set_at f x.trade (terms_of x)
 terms_after false f x = f
 
 -- the trade after an instruction of this kind, if it may start from the trade's state
@@ -199,12 +199,12 @@ step h s x = if_ok (answer h s x) (effect s x) s
 
 -- From the empty standing on, the rules accept the list's instructions one after another, and
 -- these lead to s.
-pub data Runs (h : Rulebook) : List Instruction → Standing → Type 0 where
-  start : Runs h [] empty
+pub data AreAccepted (h : Rulebook) : List Instruction → Standing → Type 0 where
+  start : AreAccepted h [] empty
   more :
-      {xs : List Instruction} {s : Standing} (x : Instruction) → Runs h xs s → answer h s x ≡ Ok tt
-      → Runs h (xs ++ (x ∷ [])) (effect s x)
+      {xs : List Instruction} {s : Standing} (x : Instruction) → AreAccepted h xs s → answer h s x ≡ Ok tt
+      → AreAccepted h (xs ++ (x ∷ [])) (effect s x)
 
 -- some list of accepted instructions leads here
 abbrev pub IsReachable : Rulebook → Standing → Type 0
-IsReachable h s = (xs : List Instruction) × Runs h xs s
+IsReachable h s = (xs : List Instruction) × AreAccepted h xs s

@@ -47,7 +47,7 @@ pub record StatesTerms (x : Instruction) (m : Terms) : Type 0 where
   pub quantity : m.quantity ≡ x.quantity
   pub amount : m.amount ≡ x.amount
 
--- every list has no instruction with the property P, or exactly one that is its last
+-- in every list either no instruction has the property P, or exactly one is the last that has it
 pub record HasUniqueLast (P : Instruction → Type 0) : Type 0 where
   pub some : (xs : List Instruction) → HasNo P xs ⊎ ((x : Instruction) × IsLast P x xs)
   pub one : (xs : List Instruction) (x y : Instruction) → IsLast P x xs → IsLast P y xs → x ≡ y

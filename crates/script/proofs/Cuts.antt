@@ -45,13 +45,13 @@ pub going-more : (read start rest : List ℕ) (r : ℕ) → Going read start res
     → Going (read ++ r ∷ []) start (after_field rest)
 going-more read start rest r g h l f =
     let e : MOST_REMAINS - length read ≡ suc (MOST_REMAINS - length (read ++ r ∷ [])) = omega
-        (arith, length-append read (r ∷ [])) in
+    (arith, length-append read (r ∷ [])) in
     g
     ∙ ap (λ n. and_then (remains_in n rest) (λ rs. Some (read ++ rs))) e
     ∙ ap (λ o. and_then o (λ rs. Some (read ++ rs))) (one-more (MOST_REMAINS - length (read ++ r ∷ [])) rest h)
     ∙ ap (λ o. and_then
-        (and_then o (λ x. and_then (remains_in (MOST_REMAINS - length (read ++ r ∷ [])) (after_field rest))
-        (λ rs. Some (x ∷ rs)))) (λ rs. Some (read ++ rs))) f
+    (and_then o (λ x. and_then (remains_in (MOST_REMAINS - length (read ++ r ∷ [])) (after_field rest))
+    (λ rs. Some (x ∷ rs)))) (λ rs. Some (read ++ rs))) f
     ∙ put-on (remains_in (MOST_REMAINS - length (read ++ r ∷ [])) (after_field rest)) r read
 
 ended-some : {X : Type 0} (bs : List ℕ) (x : X) → length bs ≡ 0 → Some x ≡ at_line_end bs x
@@ -61,7 +61,7 @@ pub going-end : (read start rest : List ℕ) → Going read start rest → lengt
     → remains_in MOST_REMAINS start ≡ at_line_end rest read
 going-end read start rest g h =
     g ∙ ap (λ o. and_then o (λ rs. Some (read ++ rs))) (none-left (MOST_REMAINS - length read) rest h)
-        ∙ ap (λ l. Some l) (append-nil read) ∙ ended-some rest read h
+    ∙ ap (λ l. Some l) (append-nil read) ∙ ended-some rest read h
 
 pub going-no-field : (read start rest : List ℕ) → Going read start rest → 0 < length rest
     → field_of (largest_in 1) rest ≡ None → remains_in MOST_REMAINS start ≡ None
@@ -73,7 +73,7 @@ pub going-full : (read start rest : List ℕ) → Going read start rest → 0 < 
 going-full read start rest g h l =
     let e : MOST_REMAINS - length read ≡ 0 = omega arith in
     g ∙ ap (λ n. and_then (remains_in n rest) (λ rs. Some (read ++ rs))) e
-        ∙ ap (λ o. and_then o (λ rs. Some (read ++ rs))) (no-room rest h)
+    ∙ ap (λ o. and_then o (λ rs. Some (read ++ rs))) (no-room rest h)
 
 -- what is read is the text of that many bytes
 pub remains-sound : (n : ℕ) (bs rs : List ℕ) → remains_in n bs ≡ Some rs
@@ -84,8 +84,8 @@ remains-sound (suc n) [] rs e = search rules
 remains-sound (suc n) (c ∷ cs) rs e =
     let bs = c ∷ cs in
     let p = then-some (field_of (largest_in 1) bs)
-        (λ r. and_then (remains_in n (after_field bs)) (λ more. Some (r ∷ more))) rs
-        (sym (one-more n bs (omega arith)) ∙ e) in
+    (λ r. and_then (remains_in n (after_field bs)) (λ more. Some (r ∷ more))) rs
+    (sym (one-more n bs (omega arith)) ∙ e) in
     let q = then-some (remains_in n (after_field bs)) (λ more. Some (p.0 ∷ more)) rs p.2 in
     let f = field-sound (largest_in 1) p.0 bs (lit< tt) p.1 in
     let r = remains-sound n (after_field bs) q.0 q.1 in
@@ -103,7 +103,7 @@ remains-complete (suc n) (r ∷ rs) l b =
     let f = field-complete (largest_in 1) r (numbers_text rs) (lit< tt) (omega (arith, b.0)) (stops rs) in
     one-more n (numbers_text (r ∷ rs)) (omega arith)
     ∙ ap (λ o. and_then o
-        (λ x. and_then (remains_in n (after_field (numbers_text (r ∷ rs)))) (λ xs. Some (x ∷ xs)))) f.0
+    (λ x. and_then (remains_in n (after_field (numbers_text (r ∷ rs)))) (λ xs. Some (x ∷ xs)))) f.0
     ∙ ap (λ b. and_then (remains_in n b) (λ xs. Some (r ∷ xs))) f.1
     ∙ ap (λ o. and_then o (λ xs. Some (r ∷ xs))) (remains-complete n rs (omega arith) b.1)
 
@@ -113,7 +113,7 @@ cut q rs = record { calls_left = q; remains = rs }
 pub cut-sound : (bs : List ℕ) (x : PowerCut) → cut_of bs ≡ Some x → IsCutText x (67 ∷ bs)
 cut-sound bs x e =
     let p = then-some (field_of (largest_in 4) bs)
-        (λ q. and_then (remains_in MOST_REMAINS (after_field bs)) (λ rs. Some (cut q rs))) x e in
+    (λ q. and_then (remains_in MOST_REMAINS (after_field bs)) (λ rs. Some (cut q rs))) x e in
     let r = then-some (remains_in MOST_REMAINS (after_field bs)) (λ rs. Some (cut p.0 rs)) x p.2 in
     let f = field-sound (largest_in 4) p.0 bs (lit< tt) p.1 in
     let s = remains-sound MOST_REMAINS (after_field bs) r.0 r.1 in
@@ -126,9 +126,9 @@ pub cut-complete : {bs : List ℕ} (x : PowerCut) → IsCutText x bs
     → cut_of (numbers_text (x.calls_left ∷ x.remains)) ≡ Some x
 cut-complete x w =
     let f = field-complete (largest_in 4) x.calls_left (numbers_text x.remains) (lit< tt)
-        (omega (arith, w.calls_left)) (stops x.remains) in
+    (omega (arith, w.calls_left)) (stops x.remains) in
     ap (λ o. and_then o
-        (λ q. and_then (remains_in MOST_REMAINS (after_field (numbers_text (x.calls_left ∷ x.remains))))
-        (λ rs. Some (cut q rs)))) f.0
+    (λ q. and_then (remains_in MOST_REMAINS (after_field (numbers_text (x.calls_left ∷ x.remains))))
+    (λ rs. Some (cut q rs)))) f.0
     ∙ ap (λ bs. and_then (remains_in MOST_REMAINS bs) (λ rs. Some (cut x.calls_left rs))) f.1
     ∙ ap (λ o. and_then o (λ rs. Some (cut x.calls_left rs))) (remains-complete MOST_REMAINS x.remains w.few w.bytes)

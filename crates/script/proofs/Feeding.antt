@@ -16,7 +16,7 @@ more-cons c (d ∷ ds) =
     let n = prefix_len in_line (d ∷ ds) in
     let p : suc n ≡ 1 + n = omega arith in
     let r : (c ∷ first_line (d ∷ ds)) ∷ lines_of (after_line (d ∷ ds)) ≡ take (1 + n) (c ∷ d ∷ ds) ∷ lines_of
-        (drop 1 (drop (1 + n) (c ∷ d ∷ ds))) =
+    (drop 1 (drop (1 + n) (c ∷ d ∷ ds))) =
     λ k. take (p k) (c ∷ d ∷ ds) ∷ lines_of (drop 1 (drop (p k) (c ∷ d ∷ ds))) in
     let m = more-cons d ds in
     search (rules, r)

@@ -104,7 +104,7 @@ fields-complete (m ∷ ms) [] a w = absurd w
 fields-complete (m ∷ ms) (n ∷ ns) a w =
     let f = field-complete m n (numbers_text ns) a.0 w.0 (stops ns) in
     ap (λ o. and_then o
-        (λ x. and_then (numbers_in ms (after_field (numbers_text (n ∷ ns)))) (λ xs. Some (x ∷ xs)))) f.0
+    (λ x. and_then (numbers_in ms (after_field (numbers_text (n ∷ ns)))) (λ xs. Some (x ∷ xs)))) f.0
     ∙ ap (λ b. and_then (numbers_in ms b) (λ xs. Some (n ∷ xs))) f.1
     ∙ ap (λ o. and_then o (λ xs. Some (n ∷ xs))) (fields-complete ms ns a.1 w.1)
 

@@ -7,7 +7,7 @@ use Rattle.refusals.specs.Numbers.{numbered}
 use Rattle.instruction.specs.declared.Kind.{Kind}
 use Rattle.instruction.specs.declared.Instruction.{Instruction}
 use Rattle.instruction.specs.Fields.{most_of, fields_of, instruction_with}
-use Rattle.instruction.specs.Layout.{Fit}
+use Rattle.instruction.specs.Layout.{IsEncodable}
 use Rattle.script.specs.declared.Position.{Position}
 use Rattle.script.specs.declared.Request.{Request}
 use Rattle.script.specs.declared.Request.TheVariants.{Instruct, Register, Cash, Cut}
@@ -60,10 +60,10 @@ filled-own : (k : Kind) (i : Instruction) → i.kind ≡ byte_of k → Zeros (om
 filled-own k i e z = search rules
 
 fits : (k : Kind) (i : Instruction) → i.kind ≡ byte_of k → Zeros (omitted_fields k i)
-    → Within (written_fields k i) (limits k) → Fit i
+    → Within (written_fields k i) (limits k) → IsEncodable i
 fits k i e z w = search rules
 
-used-within : (k : Kind) (i : Instruction) → Fit i → Within (written_fields k i) (limits k)
+used-within : (k : Kind) (i : Instruction) → IsEncodable i → Within (written_fields k i) (limits k)
 used-within k i f = search rules
 
 -- what is read has the line as its text
@@ -97,7 +97,7 @@ pair-good c ns w =
 -- a request made of the numbers of fields
 made : {X : Type 0} (c : ℕ) (ms bs : List ℕ) (f : List ℕ → X) (make : X → Request) (q : Request) (o : Option (List ℕ))
     → ((ns : List ℕ) → o ≡ Some ns → (bs ≡ numbers_text ns) × Within ns ms)
-        → ((ns : List ℕ) → Within ns ms → IsTextOf (make (f ns)) (c ∷ numbers_text ns))
+    → ((ns : List ℕ) → Within ns ms → IsTextOf (make (f ns)) (c ∷ numbers_text ns))
     → and_then (and_then o (λ ns. Some (f ns))) (λ x. Some (make x)) ≡ Some q → IsTextOf q (c ∷ bs)
 made c ms bs f make q (Some ns) s h e =
     let p = s ns refl in
@@ -114,24 +114,24 @@ cut-good bs q e =
 for-good : (c : ℕ) (bs : List ℕ) (q : Request) (r k t : Bool) (o : Option Kind) → eqb c 81 ≡ r → eqb c 75 ≡ k
     → eqb c 67 ≡ t → kind_for c ≡ o
     → cond r (and_then (position_of bs) (λ p. Some (Register p)))
-        (cond k (and_then (position_of bs) (λ p. Some (Cash p)))
+    (cond k (and_then (position_of bs) (λ p. Some (Cash p)))
     (cond t (and_then (cut_of bs) (λ x. Some (Cut x)))
-        (and_then o (λ k. and_then (instruction_of k bs) (λ i. Some (Instruct i)))))) ≡ Some q
+    (and_then o (λ k. and_then (instruction_of k bs) (λ i. Some (Instruct i)))))) ≡ Some q
     → IsTextOf q (c ∷ bs)
 for-good c bs q true k t o x y w z e =
     subst (λ d. IsTextOf q (d ∷ bs)) (sym (eqb-true c 81 x))
-        (made 81 (largest_in 2 ∷ largest_in 2 ∷ []) bs pair (λ p. Register p) q _
-        (λ ns. fields-sound _ bs ns narrow-pair) (pair-good 81) e)
+    (made 81 (largest_in 2 ∷ largest_in 2 ∷ []) bs pair (λ p. Register p) q _
+    (λ ns. fields-sound _ bs ns narrow-pair) (pair-good 81) e)
 for-good c bs q false true t o x y w z e =
     subst (λ d. IsTextOf q (d ∷ bs)) (sym (eqb-true c 75 y))
-        (made 75 (largest_in 2 ∷ largest_in 2 ∷ []) bs pair (λ p. Cash p) q _
-        (λ ns. fields-sound _ bs ns narrow-pair) (pair-good 75) e)
+    (made 75 (largest_in 2 ∷ largest_in 2 ∷ []) bs pair (λ p. Cash p) q _
+    (λ ns. fields-sound _ bs ns narrow-pair) (pair-good 75) e)
 for-good c bs q false false true o x y w z e = subst (λ d. IsTextOf q (d ∷ bs)) (sym (eqb-true c 67 w))
     (cut-good bs q e)
 for-good c bs q false false false (Some k) x y w z e =
     let own : c ≡ letter_of k = search rules in
     subst (λ d. IsTextOf q (d ∷ bs)) (sym own) (made (letter_of k) (limits k) bs (instruction_with k)
-        (λ i. Instruct i) q _ (λ ns. fields-sound _ bs ns (narrow k)) (filled-good k) e)
+    (λ i. Instruct i) q _ (λ ns. fields-sound _ bs ns (narrow k)) (filled-good k) e)
 for-good c bs q false false false None x y w z e = absurd cc
 
 after-good : (bs : List ℕ) (q : Request) (w : Word) → Seen bs w → request_after w (after_word bs) ≡ Some q
@@ -156,7 +156,7 @@ kind-complete i bs w =
     ∙ at-letter (letter_of k) (numbers_text own) (search rules)
     ∙ for-kind k (numbers_text own)
     ∙ ap (λ o. and_then (and_then o (λ ns. Some (instruction_with k ns))) (λ i. Some (Instruct i)))
-        (fields-complete (limits k) own (narrow k) (used-within k i w.fit))
+    (fields-complete (limits k) own (narrow k) (used-within k i w.fit))
     ∙ ap (λ x. Some (Instruct x)) (sym (filled-own k i w.byte w.zeros))
 
 pair-complete : (p : Position) → p.account < 2 ^ 16 → p.item < 2 ^ 16
@@ -171,7 +171,7 @@ request-complete (Register p) bs w =
     ap request_of w.text
     ∙ at-letter 81 (numbers_text (p.account ∷ p.item ∷ [])) refl
     ∙ ap (λ o. and_then (and_then o (λ ns. Some (pair ns))) (λ p. Some (Register p)))
-        (pair-complete p w.account w.item)
+    (pair-complete p w.account w.item)
 request-complete (Cash p) bs w =
     ap request_of w.text
     ∙ at-letter 75 (numbers_text (p.account ∷ p.item ∷ [])) refl

@@ -7,7 +7,7 @@ use Rattle.refusals.specs.Numbers.{number_of}
 use Rattle.instruction.specs.declared.Kind.{Kind}
 use Rattle.instruction.specs.declared.Kind.TheVariants.{Issue, PayIn, Enter, Earmark, Fund, Settle, Free}
 use Rattle.instruction.specs.declared.Instruction.{Instruction}
-use Rattle.instruction.specs.Layout.{Fit}
+use Rattle.instruction.specs.Layout.{IsEncodable}
 use Rattle.script.specs.declared.Position.{Position}
 use Rattle.script.specs.declared.Cut.{Cut as PowerCut}
 use Rattle.script.specs.declared.Request.{Request}
@@ -67,7 +67,7 @@ pub record IsInstructionText (i : Instruction) (line : List ℕ) : Type 0 where
   pub kind : Kind
   pub byte : i.kind ≡ byte_of kind
   pub zeros : AllByRecursion (λ n. n ≡ 0) (omitted_fields kind i)
-  pub fit : Fit i
+  pub fit : IsEncodable i
   pub text : line ≡ letter_of kind ∷ numbers_text (written_fields kind i)
 
 -- a line is the text of a question with this letter

@@ -80,8 +80,8 @@ fn keep(row: &mut [u8; ROW], flag: u8, bytes: &[u8; BLOCK_SIZE])
     row[LOOSE_FLAG] = 0;
 }
 
-// Keeps the kept bytes under a first byte.
-fn mark(row: &mut [u8; ROW], flag: u8)
+// Sets the first byte, and makes the row firm. The kept bytes stay.
+fn set_flag(row: &mut [u8; ROW], flag: u8)
     ensures { row.new ≡ firm_row flag (kept_bytes row.old) row.old }
 {
     let bytes = *kept_bytes(row);
@@ -124,14 +124,14 @@ fn revive(row: &mut [u8; ROW], byte: u8)
 {
     let flag = row[0];
     match byte {
-        0 => mark(row, flag),
+        0 => set_flag(row, flag),
         1 => keep_newer(row),
-        2 => mark(row, 1),
+        2 => set_flag(row, 1),
         3 if flag == 0 => {
             let bytes = tear(row);
             keep(row, 0, &bytes);
         }
-        3 => mark(row, 1),
+        3 => set_flag(row, 1),
         _ => keep(row, 0, &[byte; BLOCK_SIZE]),
     }
 }

@@ -6,7 +6,7 @@ use Rattle.script.proofs.decimal.Goals as goal
 pub returns-in_err-ok : goal.returns-in_err-ok
 returns-in_err-ok c =
     numeral-only (largest_in 8) c.args.digits.now c.from_residual.result (lit< tt)
-        (rw c.from_residual.ensures (no-text c.args.digits.now (search rules)))
+    (rw c.from_residual.ensures (no-text c.args.digits.now (search rules)))
 
 pub returns : goal.returns
 returns c =
@@ -14,4 +14,4 @@ returns c =
     let plain : Plain bs = search rules in
     let text : c.in_ok-ok.field-0.now ≡ bs = search rules in
     numeral-only (largest_in 8) bs c.ok-2.result (lit< tt)
-        (rw c.ok-2.ensures.value (parsed bs c.parse.result plain (rw text at c.parse.ensures.value.0)))
+    (rw c.ok-2.ensures.value (parsed bs c.parse.result plain (rw text at c.parse.ensures.value.0)))

@@ -10,5 +10,8 @@ returns c =
     let most = c.args.most in
     let bs = c.args.digits.now in
     let e : c.filter.result ≡ and_then (numeral (largest_in 8) bs) (λ n. then_some (leb n most) n) = search rules in
-    record { value = e ∙ numeral-below most bs (search rules); bound = search rules;
-        exact = rw e (number-below most bs (search rules)) }
+    record {
+      value = e ∙ numeral-below most bs (search rules);
+      bound = search rules;
+      exact = rw e (number-below most bs (search rules));
+    }

@@ -1,5 +1,5 @@
 use Rattle.std.proofs.Common.{◌≡◌, [], ◌∷◌, get_or, sym, ap, ◌∙◌, subst, rules}
-use Rattle.instruction.specs.Layout.{bytes_of, instruction_in, LaidOut, Fit}
+use Rattle.instruction.specs.Layout.{bytes_of, instruction_in, IsLaidOut, IsEncodable}
 use Rattle.instruction.proofs.Trips.{there, laid-out}
 use Rattle.instruction.proofs.Instruction.to_bytes.Goals as goal
 
@@ -12,7 +12,7 @@ returns c =
     let t = c.to_little_endian-5.ensures in
     let q = c.to_little_endian-6.ensures in
     let m = c.to_little_endian-7.ensures in
-    let f : Fit c.args.self = record {
+    let f : IsEncodable c.args.self = record {
       kind = search rules;
       account = search rules;
       counterparty = search rules;
@@ -32,6 +32,6 @@ returns c =
     (m k) 5 0 ∷ get_or (m k) 6 0 ∷ get_or (m k) 7 0 ∷ [] in
     record {
       value = e;
-      laid_out = subst (λ bs. LaidOut bs c.args.self) (sym e) (laid-out c.args.self);
+      laid_out = subst (λ bs. IsLaidOut bs c.args.self) (sym e) (laid-out c.args.self);
       read_back = ap instruction_in e ∙ there c.args.self f;
     }

@@ -1,6 +1,6 @@
 use Rattle.std.proofs.Common.{sym, ◌∙◌, rules}
 use Rattle.std.proofs.lemmas.Slice.Eq.{slice_eq-Decides}
-use Rattle.journal.specs.Reading.{ReadsMark}
+use Rattle.journal.specs.Decoding.{ReadsMark}
 use Rattle.journal.proofs.Trips.{reads-mark, same-test}
 use Rattle.journal.proofs.entry.is_good_mark.Goals as goal
 use Rattle.std.proofs.lemmas.Bool.Decides.{Decides-eqb}

@@ -6,7 +6,7 @@ use Rattle.simulated.proofs.rows.revive.Goals as goal
 pub returns-in-3-2 : goal.returns-in-3-2
 returns-in-3-2 c =
     let r = c.args.row.now in
-    c.mark-in-3-2.ensures ∙ sym (ap (λ (v : ℕ). revived_row v r) c.in-3.is ∙ revived-lost r c.if-flag-eq0.false)
+    c.set_flag-in-3-2.ensures ∙ sym (ap (λ (v : ℕ). revived_row v r) c.in-3.is ∙ revived-lost r c.if-flag-eq0.false)
 
 pub returns-in_default : goal.returns-in_default
 returns-in_default c =

@@ -3,7 +3,7 @@ use Rattle.std.specs.Prelude.{◌≡◌, ℕ, ◌^◌, ◌<◌, ◌≤◌, Bool,
 use Rattle.refusals.specs.declared.Refusal.{Refusal}
 use Rattle.refusals.specs.Numbers.{number_of}
 use Rattle.instruction.specs.declared.Instruction.{Instruction}
-use Rattle.instruction.specs.Layout.{Fit}
+use Rattle.instruction.specs.Layout.{IsEncodable}
 use Rattle.journal.specs.declared.TheConstants.{MOST_PAIRS}
 use Rattle.journal.specs.declared.header.Header.{Header}
 use Rattle.journal.specs.Blocks.{header_bytes, mark_bytes, record_bytes}
@@ -29,4 +29,4 @@ pub record ReadsMark (k : ℕ) (bs : List ℕ) (r : Bool) : Type 0 where
 -- 46 where no record of entry k has these bytes
 abbrev pub ReadsRecord : ℕ → List ℕ → Result Instruction Refusal → Type 0
 ReadsRecord k bs (Ok x) = record_bytes k x ≡ bs
-ReadsRecord k bs (Err r) = (number_of r ≡ 46) × ((x : Instruction) → Fit x → record_bytes k x ≢ bs)
+ReadsRecord k bs (Err r) = (number_of r ≡ 46) × ((x : Instruction) → IsEncodable x → record_bytes k x ≢ bs)
