@@ -311,7 +311,7 @@ module _ (h : Rulebook) (most pairs : ℕ) (p : IsPairCount pairs) (c₁ : (h.bo
 
       pub also : AlsoHolds h most pairs (tally cs rs) b
       also = record {
-        prompt = enough (tally cs rs) b.phase b.owed kept bounded;
+        next_open = enough (tally cs rs) b.phase b.owed kept bounded;
         refused = refused (tally cs rs) b.phase b.owed kept bounded;
         journal = journal-in (tally cs rs) b.phase b.owed kept;
       }

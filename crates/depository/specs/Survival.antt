@@ -125,7 +125,7 @@ module _ (h : Rulebook) (most_calls pairs : ℕ) where
   pub record AlsoHolds (t : Tally) (moment : Moment) : Type 0 where
     -- An open reads a header, and a mark and a record of each pair: with so many calls left it is
     -- answered 0.
-    pub prompt : (medium : Medium) (books : Side → Holdings) → moment.phase ≡ shut medium books
+    pub next_open : (medium : Medium) (books : Side → Holdings) → moment.phase ≡ shut medium books
         → 1 + 2 * pairs ≤ medium.calls_left
         → (r : Reply) (after : Moment) → LeadsTo h most_calls moment open_order r after
         → IsOpenAccepted r

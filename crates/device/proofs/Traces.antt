@@ -1,12 +1,10 @@
 -- Lists of calls, to a device of any kind.
-use Rattle.std.proofs.Common.{◌≡◌, ℕ, ◌+◌, ◌<◌, min, ◌&&◌, Bool, true, List, [], ◌∷◌, ◌++◌, length, take, sym, refl, ap, ◌∙◌, subst, inl, inr, arith}
+use Rattle.std.proofs.Common.{◌≡◌, ℕ, ◌+◌, ◌<◌, min, List, [], ◌∷◌, ◌++◌, length, take, sym, refl, ap, ◌∙◌, subst, inl, inr, arith}
 use Rattle.std.proofs.lemmas.Bool.{cases_lt}
-use Rattle.std.specs.List.{list_all}
 use Rattle.std.proofs.lemmas.Fn.{FoldsTo-push}
 use Rattle.std.proofs.lemmas.List.{take-append-le, take_all}
 use Rattle.std.proofs.Math.Seq.{take-append-add}
-use Rattle.std.proofs.lemmas.List.Folds.{list_all-append}
-use Rattle.device.specs.Traces.{DeviceCall, reading, writing, syncing, restarting, IsTrace, is_reading, only_reads, ReadOnly, LeavesNothingOpen, ReadsKeep}
+use Rattle.device.specs.Traces.{DeviceCall, IsTrace, LeavesNothingOpen}
 
 module _ {D : Type 0} (makes : D → DeviceCall → D → Type 0) where
   pub traced-one : (call : DeviceCall) (d e : D) → makes d call e → IsTrace makes (call ∷ []) d e
@@ -58,24 +56,3 @@ module _ {D : Type 0} (makes : D → DeviceCall → D → Type 0) where
     traced-fixed fixed [] d e d' e' s t same = sym (ap seen s) ∙ same ∙ ap seen t
     traced-fixed fixed (c ∷ cs) d e d' e' s t same =
         traced-fixed fixed cs s.0 t.0 d' e' s.2 t.2 (fixed c d e s.0 t.0 s.1 t.1 same)
-
-    -- a list of reads leaves what one read leaves
-    pub traced-reads : ReadsKeep seen makes → (calls : List DeviceCall) → only_reads calls ≡ true → (d d' : D)
-        → IsTrace makes calls d d' → seen d' ≡ seen d
-    traced-reads keep [] only d d' t = sym (ap seen t)
-    traced-reads keep (reading b room ∷ cs) only d d' t = traced-reads keep cs only t.0 d' t.2 ∙ keep b room d t.0 t.1
-    traced-reads keep (writing b bytes ∷ cs) only d d' t = cc
-    traced-reads keep (syncing ∷ cs) only d d' t = cc
-    traced-reads keep (restarting calls remains ∷ cs) only d d' t = cc
-
-pub only_reads-append : (xs ys : List DeviceCall) → only_reads xs ≡ true → only_reads ys ≡ true
-    → only_reads (xs ++ ys) ≡ true
-only_reads-append xs ys one two =
-    list_all-append is_reading xs ys ∙ ap (λ (b : Bool). b && list_all is_reading ys) one ∙ two
-
-module _ {D : Type 0} (makes : D → DeviceCall → D → Type 0) where
-  pub read-one : {d e : D} (block room : ℕ) → makes d (reading block room) e → ReadOnly makes d e
-  read-one {d} {e} block room m = (reading block room ∷ [], refl, traced-one makes (reading block room) d e m)
-
-  pub read-on : {d e f : D} → ReadOnly makes d e → ReadOnly makes e f → ReadOnly makes d f
-  read-on {d} {e} {f} s t = (s.0 ++ t.0, only_reads-append s.0 t.0 s.1 t.1, traced-append makes s.0 t.0 d e f s.2 t.2)

@@ -1,6 +1,6 @@
 -- The calls that a device goes through in order, and what its kind says of each.
-use Rattle.std.specs.Prelude.{◌≡◌, ℕ, ◌-◌, min, Bool, true, false, List, length}
-use Rattle.std.specs.List.{FoldsTo, list_all}
+use Rattle.std.specs.Prelude.{◌≡◌, ℕ, ◌-◌, min, List, length}
+use Rattle.std.specs.List.{FoldsTo}
 use Rattle.refusals.specs.Answers.{if_ok}
 use Rattle.device.specs.Calls.{admit_answer, spend_answer}
 
@@ -16,20 +16,6 @@ pub data DeviceCall : Type 0 where
 abbrev pub IsTrace : {D : Type 0} → (makes : D → DeviceCall → D → Type 0) →
     List DeviceCall → (d d' : D) → Type 0
 IsTrace makes calls d d' = FoldsTo makes d calls d'
-
-abbrev pub is_reading : DeviceCall → Bool
-is_reading (reading block room) = true
-is_reading (writing block bytes) = false
-is_reading syncing = false
-is_reading (restarting calls_left remains) = false
-
-abbrev pub only_reads : List DeviceCall → Bool
-only_reads calls = list_all is_reading calls
-
--- Reads, and no other calls, lead from d to d'.
-abbrev pub ReadOnly : {D : Type 0} → (makes : D → DeviceCall → D → Type 0) → (d d' : D) → Type 0
-ReadOnly makes d d' =
-    (calls : List DeviceCall) × (only_reads calls ≡ true) × IsTrace makes calls d d'
 
 -- A kind leaves nothing open if what is seen of a device before a call fixes what is seen of it
 -- afterwards.

@@ -1,19 +1,17 @@
 -- The reads of an opening, in order.
-use Rattle.std.proofs.Common.{◌≡◌, ℕ, zero, suc, ◌+◌, ◌-◌, ◌*◌, ◌<◌, ◌≤◌, Bool, true, false, cond, ltb, List, [], ◌∷◌, ◌++◌, length, take, Some, None, Ok, Err, Option, Result, sym, refl, ap, ◌∙◌, subst, add-one, length-append, append-nil, arith}
+use Rattle.std.proofs.Common.{◌≡◌, ℕ, zero, suc, ◌+◌, ◌-◌, ◌*◌, ◌<◌, ◌≤◌, Bool, true, false, ltb, List, [], ◌∷◌, ◌++◌, length, take, Some, None, Ok, Err, Option, Result, sym, refl, ap, ◌∙◌, subst, add-one, length-append, append-nil, arith}
 use Rattle.std.proofs.lemmas.Bool.{cond-true, cond-false, lt-ltb, le-ltb}
 use Rattle.std.proofs.lemmas.List.{take_all}
 use Rattle.refusals.specs.declared.Fault.{Fault}
 use Rattle.instruction.specs.declared.Instruction.{Instruction}
 use Rattle.rulebook.specs.Rules.{Rulebook, Standing, fault_answer}
 use Rattle.device.specs.Medium.{Medium}
-use Rattle.device.specs.Traces.{DeviceCall, reading, writing, syncing, restarting, IsTrace, only_reads, ReadOnly}
-use Rattle.device.proofs.Traces.{traced-append, traced-on, only_reads-append}
+use Rattle.device.specs.Traces.{DeviceCall, IsTrace}
+use Rattle.device.proofs.Traces.{traced-append, traced-on}
 use Rattle.journal.specs.Journal.{record_at, mark_at}
 use Rattle.engine.specs.Recovery.{rules_answer, answer_by_record, answer_by_mark, entry_answer}
 use Rattle.journal.specs.Entries.{after_reads, block_read, read_mark_answer, read_record_answer}
 use Rattle.journal.proofs.ReadAnswers.{mark-refused, mark-spends, record-names, record-spends}
-use Rattle.engine.specs.declared.engine.Mode.{Mode}
-use Rattle.engine.specs.declared.engine.Mode.TheVariants.{Open, Down, Refused}
 use Rattle.engine.specs.View.{View}
 use Rattle.engine.specs.Opening.{refused_view, opening_view}
 use Rattle.engine.specs.Tracing.{entry_reads, list_reads, refused_reads, view_reads, opening_calls}
@@ -186,44 +184,3 @@ module _ {D : Type 0} (makes : D → DeviceCall → D → Type 0) where
       → IsTrace makes (opening_calls h m) d e
   opening-traced h m v d e is t =
       subst (λ (u : View). IsTrace makes (take (m.calls_left + 1) (block_read 0 ∷ view_reads u.mode u)) d e) is t
-
--- an opening makes no other calls than reads
-
-entries-read : (n : ℕ) → only_reads (entry_reads n) ≡ true
-unfolding entry_reads
-entries-read zero = refl
-entries-read (suc n) =
-    only_reads-append (entry_reads n) (block_read (mark_at n) ∷ block_read (record_at n) ∷ []) (entries-read n) refl
-
-last-read : (k : ℕ) (b : Bool) → only_reads (cond b (block_read (mark_at k) ∷ []) []) ≡ true
-last-read k true = refl
-last-read k false = refl
-
-refused-read : (o : Option ℕ) → only_reads (refused_reads o) ≡ true
-refused-read None = refl
-refused-read (Some k) = entries-read (k + 1)
-
-opened-read : (mode : Mode) (v : View) → only_reads (view_reads mode v) ≡ true
-opened-read Open v =
-    only_reads-append (entry_reads v.found) (cond (ltb v.found v.pairs) (block_read (mark_at v.found) ∷ []) [])
-    (entries-read v.found) (last-read v.found (ltb v.found v.pairs))
-opened-read (Down x) v = refl
-opened-read (Refused f) v = refused-read f.entry
-
-taken-read : (n : ℕ) (calls : List DeviceCall) → only_reads calls ≡ true → only_reads (take n calls) ≡ true
-taken-read zero calls e = refl
-taken-read (suc n) [] e = refl
-taken-read (suc n) (reading b room ∷ calls) e = taken-read n calls e
-taken-read (suc n) (writing b bytes ∷ calls) e = absurd cc
-taken-read (suc n) (syncing ∷ calls) e = absurd cc
-taken-read (suc n) (restarting left remains ∷ calls) e = absurd cc
-
-pub opening-reads : (h : Rulebook) (m : Medium) → only_reads (opening_calls h m) ≡ true
-opening-reads h m =
-    let v = opening_view h m in
-    taken-read (m.calls_left + 1) (block_read 0 ∷ view_reads v.mode v) (opened-read v.mode v)
-
--- what an opening went through were reads
-pub opens-reading : {D : Type 0} (makes : D → DeviceCall → D → Type 0) (h : Rulebook) (m : Medium) (d e : D)
-    → IsTrace makes (opening_calls h m) d e → ReadOnly makes d e
-opens-reading makes h m d e t = (opening_calls h m, opening-reads h m, t)

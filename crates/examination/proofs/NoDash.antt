@@ -209,7 +209,7 @@ module _ (h : Rulebook) (most : ℕ) where
           format = run.format;
           path = no_calls refl;
         } in
-        let well = (s.also [] [] (moment_in (shut m books) None) run.device start).prompt m books refl
+        let well = (s.also [] [] (moment_in (shut m books) None) run.device start).next_open m books refl
         (omega (arith, left, calls)) n.reply n.moment n.does in
         subst (λ z. AllByRecursion HasNoDash (answers_for qs (drop 1 z))) (sym n.is)
         (no-dash-lines qs n.replies n.moment n.device b e n.path (first m books n.reply n.moment n.does well))
