@@ -39,7 +39,7 @@ use Rattle.depository.proofs.Reopening.{closed, restarted, reopened}
 
 -- The slip that is owed is the last known one: while no engine runs, and under one whose opening
 -- was refused. Under an engine that is open or down nothing is claimed of it: that engine's own
--- closing slip will be known, and will be owed in its place.
+-- slip will be known, and will be owed in its place.
 abbrev pub OwesBy : Option Contents → Mode → Option Contents → Type 0
 OwesBy last_slip Open l = Unit {0}
 OwesBy last_slip (Down x) l = Unit {0}

@@ -1,4 +1,4 @@
--- The closing slip that a depository owes, if any: the last known one, until an engine judges it.
+-- The slip that a depository owes, if any: the last known one, until an engine judges it.
 use Rattle.std.specs.Prelude.{Some, None, Option, is_some, ◌≡◌}
 use Rattle.engine.specs.declared.slip.Slip.{Slip}
 use Rattle.engine.specs.declared.slip.Contents.{Contents}

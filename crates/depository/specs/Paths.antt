@@ -37,7 +37,7 @@ pub data Path {D : Type 0} (makes : D → DeviceCall → D → Type 0) (means : 
       → Path makes means h most_calls m e cs rs b f
       → Path makes means h most_calls a d (c ∷ cs) (r ∷ rs) b f
 
--- What the closing slip of this call tells: none but a close gives one, and to an engine. It is
+-- What the slip of this call tells: none but a close gives one, and to an engine. It is
 -- unknown (None) where that engine's opening was refused.
 abbrev pub slip_of_call : Phase → Order → Option Contents
 slip_of_call (running v) close_order = closing_contents v

@@ -45,7 +45,7 @@ pub enum Fact {
 pub enum Call<'a> {
     /// Gives the engine an instruction.
     Instruct(Instruction),
-    /// Closes the engine. If its closing slip is known, the depository owes that one from then on,
+    /// Closes the engine. If its slip is known, the depository owes that one from then on,
     /// and files the one that it owed before. An unknown slip is filed.
     Close,
     /// Restarts the device, as after a cut of the power.

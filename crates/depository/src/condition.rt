@@ -17,7 +17,7 @@ pub enum Condition<D: PoweredDevice, R: Book, C: Book> {
 /// A device that is restarted after cuts of the power, with its two books, which stay the same.
 /// `serve` formats the device and makes the depository.
 ///
-/// It owes the last known closing slip until an engine judges it, and cannot be dropped while it
+/// It owes the last known slip until an engine judges it, and cannot be dropped while it
 /// owes one: `finish` files it.
 #[derive(Drop)]
 pub struct Depository<D: PoweredDevice, R: Book, C: Book> {

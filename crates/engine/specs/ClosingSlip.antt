@@ -1,4 +1,4 @@
--- What a closing slip says, and the verdict on one.
+-- What a slip says, and the verdict on one.
 use Rattle.std.specs.Prelude.{◌≡◌, ℕ, if◌then◌else◌, ◌+◌, Bool, false, ◌&&◌, Some, None, Ok, Err, Option, Result, ◌==◌, ◌≢◌}
 use Rattle.refusals.specs.declared.Refusal.{Refusal}
 use Rattle.refusals.specs.declared.Place.{Place}

@@ -98,7 +98,7 @@ impl<D: Device, R: Book, C: Book> Engine<D, R, C> {
         self.found.count
     }
 
-    /// The verdict on a closing slip, by what the opening found. The slip is then no longer owed.
+    /// The verdict on a slip, by what the opening found. The slip is then no longer owed.
     ///
     /// # Errors
     ///

@@ -11,7 +11,7 @@ use book::Book;
 use device::Device;
 
 impl<D: Device, R: Book, C: Book> Engine<D, R, C> {
-    /// Gives the device and the books back, with a closing slip. The slip says how many entries
+    /// Gives the device and the books back, with a slip. The slip says how many entries
     /// stand, and which instruction is in hand if power went; it says nothing where the opening
     /// was refused.
     pub fn close(self) -> (D, R, C, Slip)

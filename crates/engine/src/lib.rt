@@ -11,7 +11,7 @@
 //!   (`kept`).
 //! - `Engine::instruct` promises the answer, what it leaves (`done`, by `TakesInstruction` of
 //!   specs/Instructing), and when it takes the engine down (`cut`).
-//! - `Engine::close` and `Engine::present` promise what the closing slip says (`slip`) and the
+//! - `Engine::close` and `Engine::present` promise what the slip says (`slip`) and the
 //!   verdict on it (`exact`, by `HasVerdict` of specs/ClosingSlip). A slip can be dropped only
 //!   after it was presented or filed.
 //! - Each promises which calls it makes to the device (`trace`).

@@ -1,11 +1,11 @@
-// The closing slip, which is owed until it is presented or filed, and the verdict on one.
+// The slip, which is owed until it is presented or filed, and the verdict on one.
 ghost use Rattle.std.specs.Prelude.{◌≡◌, true, is_some};
 ghost use Rattle.engine.specs.ClosingSlip.{contents, IsOwed, slip_verdict, HasVerdict, verdict_number, verdict_place, presented_number, PresentedNumbersDiffer, is_last_found};
 
 use instruction::Instruction;
 use refusals::{Place, Refusal};
 
-/// What a closing slip says of the engine that was closed.
+/// What a slip says of the engine that was closed.
 #[derive(Clone, Copy, Debug, PartialEq, Eq)]
 pub struct Contents {
     /// How many entries stood, 0 to `journal::MOST_PAIRS`.
@@ -14,7 +14,7 @@ pub struct Contents {
     pub hand: Option<Instruction>,
 }
 
-/// What an engine says of a closing slip that is presented to it. The discriminants are the
+/// What an engine says of a slip that is presented to it. The discriminants are the
 /// numbers that operators know.
 #[derive(Clone, Copy, Debug, PartialEq, Eq)]
 pub enum Verdict {
@@ -59,7 +59,7 @@ pub fn presented_number(presented: Result<Verdict, Refusal>) -> u8
     }
 }
 
-/// A closing slip: plain numbers that an operator keeps from a closing to the next opening. It is
+/// A slip: plain numbers that an operator keeps from a closing to the next opening. It is
 /// owed: it cannot be dropped before it is presented to an engine or filed. It says nothing where
 /// the opening of the engine that was closed had been refused.
 #[derive(Debug)]

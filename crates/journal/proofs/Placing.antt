@@ -89,7 +89,7 @@ pub entry-placed : (k : ℕ) (x : Instruction) (m m' : Medium) → k < 2 ^ 32 �
     → WritesEntry (record_bytes k x) (mark_bytes k) k m m' → EntryPlaces k x m m'
 entry-placed k x m m' low calls e =
     record {
-      entry = (record_bytes k x, ap m'.holds (omega arith) ∙ e.new_record (omega arith), record-placed k x low);
-      mark = (mark_bytes k, ap m'.holds (omega arith) ∙ e.new_mark (omega arith), mark-placed k low);
+      record_block = (record_bytes k x, ap m'.holds (omega arith) ∙ e.new_record (omega arith), record-placed k x low);
+      mark_block = (mark_bytes k, ap m'.holds (omega arith) ∙ e.new_mark (omega arith), mark-placed k low);
       others = λ b n p. e.holds b (λ q. n (omega arith)) (λ q. p (omega arith));
     }

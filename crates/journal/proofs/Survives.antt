@@ -26,7 +26,7 @@ module _ {X : Type 0} (L : JournalBlocks X) where
     pub room : length ys ≤ L.pairs
     pub marks : (k : ℕ) → k < length ys → MarkIsGood L m k
     pub records : (k : ℕ) → k < length ys
-        → (bs : List ℕ) × (m.holds (record_at k) ≡ Some bs) × (L.read k bs ≡ Some (get_or ys k L.blank))
+        → (bs : List ℕ) × (m.holds (record_at k) ≡ Some bs) × (L.read k bs ≡ Some (get_or ys k L.filler))
     pub stop : length ys < L.pairs → MarkIsGood L m (length ys) → ⊥
 
   blank-stays : (m n : Medium) (k : ℕ) → Steady m n (mark_at k) → MarkIsBlank L m k → MarkIsBlank L n k
@@ -63,8 +63,8 @@ module _ {X : Type 0} (L : JournalBlocks X) where
         head = j.head;
         room = omega arith;
         records = λ k h.
-            ⊎_elim (λ (e : k ≡ length xs). rw (get_or_push xs x L.blank k (sym e), e) f)
-            (λ o. ⊎_elim (λ (h' : k < length xs). rw (get_or_append_left xs (x ∷ []) L.blank k h') (j.records k h'))
+            ⊎_elim (λ (e : k ≡ length xs). rw (get_or_push xs x L.filler k (sym e), e) f)
+            (λ o. ⊎_elim (λ (h' : k < length xs). rw (get_or_append_left xs (x ∷ []) L.filler k h') (j.records k h'))
             (λ (h' : length xs < k). absurd (omega arith)) o)
             (cases_order k (length xs));
         marks = λ k h.
@@ -76,13 +76,13 @@ module _ {X : Type 0} (L : JournalBlocks X) where
       }
 
   module _ (m n : Medium) (xs : List X) (x : X) (room : length xs < L.pairs)
-      (fits : L.read (length xs) (L.entry (length xs) x) ≡ Some x)
-      (e : WritesEntry (L.entry (length xs) x) (L.mark (length xs)) (length xs) m n) where
+      (fits : L.read (length xs) (L.record_for (length xs) x) ≡ Some x)
+      (e : WritesEntry (L.record_for (length xs) x) (L.mark (length xs)) (length xs) m n) where
     around : (c : ℕ) → (c ≡ record_at (length xs) → ⊥) → (c ≡ mark_at (length xs) → ⊥) → Steady m n c
     around c a b f = (e.holds c a b, e.loose c a b f)
 
     recorded : 1 < m.calls_left → Says L n (length xs) x
-    recorded l = (L.entry (length xs) x, (e.new_record (omega arith), e.new_record-firm l), fits)
+    recorded l = (L.record_for (length xs) x, (e.new_record (omega arith), e.new_record-firm l), fits)
 
     -- an entry that was cut short is in hand
     pub entry-cut : Journal L m xs None → m.calls_left < 4 → Journal L n xs (Some x)
@@ -148,7 +148,7 @@ module _ {X : Type 0} (L : JournalBlocks X) where
 
   -- what is found agrees with the list, entry by entry
   agree : (m : Medium) (xs ys : List X) (hand : Option X) → Journal L m xs hand → Found m ys → (k : ℕ)
-      → k < length xs → k < length ys → get_or ys k L.blank ≡ get_or xs k L.blank
+      → k < length xs → k < length ys → get_or ys k L.filler ≡ get_or xs k L.filler
   agree m xs ys hand j f k lx ly = one-reading m k _ _ (f.records k ly) (j.records k lx)
 
   -- nothing that stands is missed
@@ -160,7 +160,7 @@ module _ {X : Type 0} (L : JournalBlocks X) where
 
   same-list : (m : Medium) (xs ys : List X) (hand : Option X) → Journal L m xs hand → Found m ys
       → length ys ≡ length xs → ys ≡ xs
-  same-list m xs ys hand j f e = ext_get_or L.blank ys xs e (λ k l. agree m xs ys hand j f k (omega arith) l)
+  same-list m xs ys hand j f e = ext_get_or L.filler ys xs e (λ k l. agree m xs ys hand j f k (omega arith) l)
 
   -- with one in hand, at most one more
   one-at-most : (m : Medium) (xs ys : List X) (x : X) → Journal L m xs (Some x) → Found m ys
@@ -187,11 +187,11 @@ module _ {X : Type 0} (L : JournalBlocks X) where
       (λ q.
       let p = length_push xs x in
       let n = length xs in
-      let last : get_or ys n L.blank ≡ x = one-reading m n _ _ (f.records n (omega arith)) q.0 in (
-        ext_get_or L.blank ys (xs ++ (x ∷ [])) (omega arith) (λ k h.
-            ⊎_elim (λ (w : k ≡ n). ap (λ v. get_or ys v L.blank) w ∙ last ∙ sym (get_or_push xs x L.blank k (sym w)))
+      let last : get_or ys n L.filler ≡ x = one-reading m n _ _ (f.records n (omega arith)) q.0 in (
+        ext_get_or L.filler ys (xs ++ (x ∷ [])) (omega arith) (λ k h.
+            ⊎_elim (λ (w : k ≡ n). ap (λ v. get_or ys v L.filler) w ∙ last ∙ sym (get_or_push xs x L.filler k (sym w)))
             (λ o. ⊎_elim
-            (λ (w : k < n). agree m xs ys (Some x) j f k w h ∙ sym (get_or_append_left xs (x ∷ []) L.blank k w))
+            (λ (w : k < n). agree m xs ys (Some x) j f k w h ∙ sym (get_or_append_left xs (x ∷ []) L.filler k w))
             (λ (w : n < k). absurd (omega arith)) o)
             (cases_order k n)),
         one-more m xs x (Some x) j.tail.0 j q.0 (f.marks n (omega arith), settled-down m xs x j l),

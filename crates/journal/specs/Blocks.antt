@@ -87,7 +87,7 @@ journal_blocks h = record {
   pairs = h.pairs;
   header = header_bytes h;
   mark = mark_bytes;
-  entry = record_bytes;
+  record_for = record_bytes;
   read = λ k bs. read_in (record_in k bs);
-  blank = no_instruction;
+  filler = no_instruction;
 }

@@ -12,12 +12,12 @@ pub record JournalBlocks (X : Type 0) : Type 0 where
   pub header : List ℕ
   -- the bytes of the good mark of an entry
   pub mark : ℕ → List ℕ
-  -- the bytes of the record of an entry that says x
-  pub entry : ℕ → X → List ℕ
+  -- the bytes of the record of an entry that holds x
+  pub record_for : ℕ → X → List ℕ
   -- what a block says as the record of an entry, if anything
   pub read : ℕ → List ℕ → Option X
   -- what a look-up past the list gives
-  pub blank : X
+  pub filler : X
 
 -- the block of the record of entry k
 abbrev pub record_at : ℕ → ℕ
@@ -85,7 +85,7 @@ module _ {X : Type 0} (L : JournalBlocks X) where
   pub record Journal (m : Medium) (xs : List X) (hand : Option X) : Type 0 where
     pub head : HoldsFirmly m 0 L.header
     pub room : length xs ≤ L.pairs
-    pub records : (k : ℕ) → k < length xs → Says m k (slice_index_or xs k L.blank)
+    pub records : (k : ℕ) → k < length xs → Says m k (slice_index_or xs k L.filler)
     pub marks : (k : ℕ) → k < length xs → HoldsFirmly m (mark_at k) (L.mark k)
     -- past the first unused pair no mark is good
     pub beyond : (k : ℕ) → length xs < k → k < L.pairs → MarkIsBlank m k

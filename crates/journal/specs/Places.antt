@@ -56,8 +56,8 @@ pub record FormatPlaces (register cash pairs : ℕ) (m m' : Medium) : Type 0 whe
 -- what a whole writing of entry k leaves
 pub record EntryPlaces (k : ℕ) (x : Instruction) (m m' : Medium) : Type 0 where
   -- its record is in the odd block 2k + 1
-  pub entry : (bs : List ℕ) × (m'.holds (2 * k + 1) ≡ Some bs) × RecordPlaces k x bs
+  pub record_block : (bs : List ℕ) × (m'.holds (2 * k + 1) ≡ Some bs) × RecordPlaces k x bs
   -- its mark is in the even block after that
-  pub mark : (bs : List ℕ) × (m'.holds (2 * k + 2) ≡ Some bs) × MarkPlaces k bs
+  pub mark_block : (bs : List ℕ) × (m'.holds (2 * k + 2) ≡ Some bs) × MarkPlaces k bs
   -- all other blocks are as they were
   pub others : (b : ℕ) → b ≢ 2 * k + 1 → b ≢ 2 * k + 2 → m'.holds b ≡ m.holds b
