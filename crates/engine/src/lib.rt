@@ -14,7 +14,7 @@
 //! - `Engine::close` and `Engine::present` promise what the slip says (`slip`) and the
 //!   verdict on it (`exact`, by `HasVerdict` of specs/ClosingSlip). A slip can be dropped only
 //!   after it was presented or filed.
-//! - Each promises which calls it makes to the device (`trace`).
+//! - `open` and `instruct` promise which calls they make to the device (`trace`).
 //!
 //! It rests on `device` and `book`, which are interfaces, on `ledger` for the rules, and on
 //! `journal` for what stands on the device.

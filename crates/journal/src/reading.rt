@@ -43,7 +43,7 @@ pub fn read_header<D: Device>(device: &mut D, register: u8, cash: u8) -> Result<
 
 /// Whether the mark of an entry is good: one that cannot be read is not. It reads one block, once.
 ///
-/// The caller has made sure that the device has the entry's blocks.
+/// The caller has made sure that a journal can have this entry, and that the device has its blocks.
 ///
 /// # Errors
 ///
@@ -65,7 +65,7 @@ pub fn read_mark<D: Device>(device: &mut D, entry: u32) -> Result<bool, Fault>
 
 /// The instruction that the record of an entry says. It reads one block, once.
 ///
-/// The caller has made sure that the device has the entry's blocks.
+/// The caller has made sure that a journal can have this entry, and that the device has its blocks.
 ///
 /// # Errors
 ///

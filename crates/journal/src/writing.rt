@@ -13,7 +13,7 @@ use refusals::Fault;
 
 /// Writes an entry, in four calls: its record, a sync, its mark, a sync.
 ///
-/// The caller has made sure that the device has the entry's blocks.
+/// The caller has made sure that a journal can have this entry, and that the device has its blocks.
 ///
 /// # Errors
 ///

@@ -11,7 +11,7 @@ use Rattle.rulebook.specs.Flows.{credits, outflows, inflows, holds}
 use Rattle.rulebook.specs.Words.{IsOn, IsEnterOn, HasNo, IsLast, IsStateAfter, StatesTerms}
 
 -- The law stands apart from the rules that it guards. What a list of instructions says of a trade
--- is defined in Words, what is summed for an account in Tally. Both use the types of the rules,
+-- is defined in Words, what is summed for an account in Flows. Both use the types of the rules,
 -- and none of the functions by which the rules answer and change things.
 
 -- For account a and item i of side d's book, the amounts add up.
