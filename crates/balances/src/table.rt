@@ -1,4 +1,5 @@
-// The table alone in a file: the invariants of a struct see the imports of its file, and those of `lib.rt` would be too many.
+// The table, with what always holds of it. (A struct's invariants see all imports of its file, so it
+// has a file with few.)
 ghost use Rattle.balances.specs.Rows.{IsWholeTable, KeepsCeiling};
 
 use book::{ACCOUNTS, Holding};

@@ -7,7 +7,9 @@ use std::alloc::{AllocError, Global};
 
 #[derive(Drop)]
 pub(crate) struct Case<'a> {
+    /// The calls of the case, in order.
     pub calls: Vec<Call<'a>>,
+    /// The replies that they must have, worked out by hand.
     pub expected: Vec<Reply>,
 }
 

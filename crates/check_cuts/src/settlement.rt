@@ -62,6 +62,7 @@ pub(crate) fn last_three(quantity: u64) -> [Instruction; 3] {
 // A question, and the reply to it if none, one, two or all of the last three instructions stand.
 #[derive(Clone, Copy)]
 pub(crate) struct Row {
+    /// What is asked.
     pub question: Question,
     replies: [Reply; 4],
 }

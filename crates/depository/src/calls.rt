@@ -10,19 +10,19 @@ use rulebook::State;
 pub enum Question {
     /// What an account has of an item.
     Securities {
-        /// 0 to 63.
+        /// An account; 64 or more is answered 21.
         account: u16,
-        /// An item of the register, from 0.
+        /// An item of the register; one that it lacks is answered 22.
         item: u16,
     },
     /// What an account has of a currency.
     Money {
-        /// 0 to 63.
+        /// An account; 64 or more is answered 21.
         account: u16,
-        /// An item of the cash book, from 0.
+        /// An item of the cash book; one that it lacks is answered 22.
         currency: u16,
     },
-    /// The state of the trade with this number, 0 to 127.
+    /// The state of the trade with this number; 128 or more is answered 30.
     TradeState(u32),
     /// How many entries stand.
     Entries,

@@ -36,8 +36,8 @@ fn answer_to_question<D: Device, R: Book, C: Book>(
 }
 
 impl<D: PoweredDevice, R: Book, C: Book> Depository<D, R, C> {
-    // The clause `fit` is for the caller, which takes the instruction from a slice of calls: its
-    // fields' ranges are not known there.
+    // The engine's answer to an instruction, or a misfit. The clause `fit` says again what the types of
+    // the fields say, since a proof about a slice of calls does not have it.
     pub(crate) fn instruct(&mut self, x: Instruction) -> Reply
         ensures fit { IsEncodable x }
         ensures does { LeadsTo (rulebook_of R.book_kind C.book_kind) D.PoweredDevice.most_calls
@@ -52,6 +52,7 @@ impl<D: PoweredDevice, R: Book, C: Book> Depository<D, R, C> {
         }
     }
 
+    // Closes the engine, or is a misfit. A known slip is owed from then on in place of the one before.
     pub(crate) fn close(self) -> (Self, Reply)
         ensures does { LeadsTo (rulebook_of R.book_kind C.book_kind) D.PoweredDevice.most_calls
             (moment_of self) close_order result.1 (moment_of result.0) }
@@ -71,6 +72,7 @@ impl<D: PoweredDevice, R: Book, C: Book> Depository<D, R, C> {
         }
     }
 
+    // Restarts the device while no engine runs, or is a misfit.
     pub(crate) fn restart(&mut self, calls_left: u32, remains: &[u8]) -> Reply
         ensures does { LeadsTo (rulebook_of R.book_kind C.book_kind) D.PoweredDevice.most_calls
             (moment_of self.old) (restart_order calls_left remains.now) result
@@ -88,6 +90,7 @@ impl<D: PoweredDevice, R: Book, C: Book> Depository<D, R, C> {
         }
     }
 
+    // Opens the device while no engine runs, and presents the slip that is owed; or is a misfit.
     pub(crate) fn open(self) -> (Self, Reply)
         ensures does { LeadsTo (rulebook_of R.book_kind C.book_kind) D.PoweredDevice.most_calls
             (moment_of self) open_order result.1 (moment_of result.0) }
@@ -114,6 +117,7 @@ impl<D: PoweredDevice, R: Book, C: Book> Depository<D, R, C> {
         }
     }
 
+    // The engine's answer to a question, or a misfit.
     pub(crate) fn ask(&self, question: &Question) -> Reply
         ensures { LeadsTo (rulebook_of R.book_kind C.book_kind) D.PoweredDevice.most_calls
             (moment_of self.now) (ask_order question.now) result (moment_of self.now) }

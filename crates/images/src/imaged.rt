@@ -70,9 +70,7 @@ pub fn held_bytes(row: &[u8]) -> Option<&[u8; BLOCK_SIZE]>
     }
 }
 
-// Puts the bytes of a block into a row. The caller lends the row by indexing, whose contract keeps
-// what the whole image holds. If it lent a part of the image as an array, the contract would keep
-// the image's length alone.
+// Puts the bytes of a block into a row, which is lent by indexing (docs/DECISIONS.md says why).
 fn store_row<const ROW: usize, F: RowFormat<ROW>>(row: &mut [u8], bytes: &[u8; BLOCK_SIZE])
     requires { length row.old ≡ ROW }
     ensures { row.new ≡ F.row_after_write row.old bytes.now }

@@ -4,7 +4,7 @@ use Rattle.std.proofs.lemmas.Bool.{cases_lt}
 use Rattle.device.specs.Medium.{Medium}
 use Rattle.journal.specs.declared.header.Header.{Header}
 use Rattle.journal.specs.Blocks.{zeros, header_bytes, journal_blocks}
-use Rattle.journal.specs.Journal.{mark_at, MarkIsBlank, Journal}
+use Rattle.journal.specs.Journal.{mark_at, MarkIsFirmlyBad, Journal}
 use Rattle.journal.specs.Format.{IsNoMarkBlock, Formats, WritesAndSyncs, BlanksMarks}
 use Rattle.journal.proofs.Trips.{zeros-no-mark}
 
@@ -100,7 +100,7 @@ some-is e = cc
 pub fresh-journal : (h : Header) (m m' : Medium) → h.pairs < 32768 → h.pairs + 4 < m.calls_left
     → Formats (header_bytes h) h.pairs m m' → Journal (journal_blocks h) m' [] None
 fresh-journal h m m' few calls f =
-    let blank : (k : ℕ) → k < h.pairs → MarkIsBlank (journal_blocks h) m' k =
+    let blank : (k : ℕ) → k < h.pairs → MarkIsFirmlyBad (journal_blocks h) m' k =
     λ k l. (
       λ good. zeros-no-mark k (omega arith) (some-is (sym (f.no_mark k l (omega arith)) ∙ good)),
       f.firm calls

@@ -5,7 +5,7 @@ use Rattle.std.proofs.lemmas.List.{length_push, get_or_push, get_or_append_left}
 use Rattle.device.specs.Medium.{Medium}
 use Rattle.device.specs.Calls.{SameBlocks}
 use Rattle.device.specs.Power.{Restart}
-use Rattle.journal.specs.Journal.{JournalBlocks, HoldsFirmly, mark_at, record_at, MarkIsGood, MarkIsBlank, TailIs, Says, Journal, WritesEntry}
+use Rattle.journal.specs.Journal.{JournalBlocks, HoldsFirmly, mark_at, record_at, MarkIsGood, MarkIsFirmlyBad, TailIs, Says, Journal, WritesEntry}
 
 -- a block that is not loose keeps what it holds, and stays so
 abbrev pub Steady : Medium → Medium → ℕ → Type 0
@@ -29,7 +29,7 @@ module _ {X : Type 0} (L : JournalBlocks X) where
         → (bs : List ℕ) × (m.holds (record_at k) ≡ Some bs) × (L.read k bs ≡ Some (get_or ys k L.filler))
     pub stop : length ys < L.pairs → MarkIsGood L m (length ys) → ⊥
 
-  blank-stays : (m n : Medium) (k : ℕ) → Steady m n (mark_at k) → MarkIsBlank L m k → MarkIsBlank L n k
+  blank-stays : (m n : Medium) (k : ℕ) → Steady m n (mark_at k) → MarkIsFirmlyBad L m k → MarkIsFirmlyBad L n k
   blank-stays m n k s b = let t = s b.1 in (λ g. b.0 (sym t.0 ∙ g), t.1)
 
   says-stays : (m n : Medium) (k : ℕ) (x : X) → Steady m n (record_at k) → Says L m k x → Says L n k x

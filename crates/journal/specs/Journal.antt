@@ -64,8 +64,8 @@ module _ {X : Type 0} (L : JournalBlocks X) where
   MarkIsGood m k = m.holds (mark_at k) ≡ Some (L.mark k)
 
   -- the mark is not good, and a loss of power leaves it so
-  abbrev pub MarkIsBlank : Medium → ℕ → Type 0
-  MarkIsBlank m k = (MarkIsGood m k → ⊥) × (m.loose (mark_at k) ≡ false)
+  abbrev pub MarkIsFirmlyBad : Medium → ℕ → Type 0
+  MarkIsFirmlyBad m k = (MarkIsGood m k → ⊥) × (m.loose (mark_at k) ≡ false)
 
   -- the record of entry k says x, and a loss of power leaves it so
   abbrev pub Says : Medium → ℕ → X → Type 0
@@ -76,10 +76,10 @@ module _ {X : Type 0} (L : JournalBlocks X) where
   -- surely says the instruction, the mark may hold anything, and it is loose only if no calls are
   -- left.
   abbrev pub TailIs : Medium → ℕ → Option X → Type 0
-  TailIs m n None = n < L.pairs → MarkIsBlank m n
+  TailIs m n None = n < L.pairs → MarkIsFirmlyBad m n
   TailIs m n (Some x) =
       (n < L.pairs)
-      × (MarkIsBlank m n ⊎ (Says m n x × ((m.calls_left ≡ 0) ⊎ (m.loose (mark_at n) ≡ false))))
+      × (MarkIsFirmlyBad m n ⊎ (Says m n x × ((m.calls_left ≡ 0) ⊎ (m.loose (mark_at n) ≡ false))))
 
   -- the device keeps the list, and what is in hand, if anything
   pub record Journal (m : Medium) (xs : List X) (hand : Option X) : Type 0 where
@@ -88,5 +88,5 @@ module _ {X : Type 0} (L : JournalBlocks X) where
     pub records : (k : ℕ) → k < length xs → Says m k (slice_index_or xs k L.filler)
     pub marks : (k : ℕ) → k < length xs → HoldsFirmly m (mark_at k) (L.mark k)
     -- past the first unused pair no mark is good
-    pub beyond : (k : ℕ) → length xs < k → k < L.pairs → MarkIsBlank m k
+    pub beyond : (k : ℕ) → length xs < k → k < L.pairs → MarkIsFirmlyBad m k
     pub tail : TailIs m (length xs) hand

@@ -53,7 +53,7 @@ impl Trades {
         ensures answer { result ≡ put_answer number }
         ensures after { self.new.rows ≡ rows_with self.old.rows number trade }
     {
-        // By index: after a `get_mut` a proof knows how many rows there are, not what they hold.
+        // By index: docs/DECISIONS.md says why.
         if number as usize >= TRADES {
             return Err(Refusal::NoTrade);
         }

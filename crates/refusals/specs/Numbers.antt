@@ -37,7 +37,7 @@ number_of NoRoom = 61
 number_of UnlistedLine = 71
 number_of InputTooLong = 73
 
--- the refusal with this number, and `NoRoom` for a number that no refusal has
+-- The refusal with this number. What is no number of a refusal reads as 61; promises name none.
 abbrev pub numbered : ℕ → Refusal
 numbered n =
     if n == 11 then NoBlock else

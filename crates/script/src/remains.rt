@@ -50,8 +50,7 @@ impl Remains {
             ((self.new ≡ self.old) × (MOST_REMAINS ≤ length self.old))
             (λ _. (self.new ≡ self.old ++ byte ∷ []) × (length self.old < MOST_REMAINS)) }
     {
-        // Indexed, since after a `get_mut` the library's contract keeps the array's length and not
-        // its contents.
+        // By index: docs/DECISIONS.md says why.
         if self.count >= MOST_REMAINS {
             return None;
         }

@@ -105,9 +105,8 @@ fn tear(row: &[u8; ROW]) -> [u8; BLOCK_SIZE]
     bytes
 }
 
-// Moves the newer bytes of a loose row into the kept ones. The caller lends the row by indexing,
-// whose contract keeps what the whole image holds. If it lent a part of the image as an array, the
-// contract would keep the image's length alone.
+// Moves the newer bytes of a loose row into the kept ones. The row is lent by indexing
+// (docs/DECISIONS.md says why).
 pub(crate) fn sync_row(row: &mut [u8])
     requires { length row.old ≡ ROW }
     ensures { row.new ≡ row_after_sync 0 row.old }

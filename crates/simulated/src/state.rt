@@ -30,8 +30,7 @@ impl Simulated {
         ensures size { (meaning result).size ≡ block_count ROW image.items }
         ensures calls_left { (meaning result).calls_left ≡ calls_left }
 
-        // what `Makes` says of a call to such a device leaves nothing open of its image and the
-        // calls left
+        // what a call makes of the image and the calls left is fixed by these and the call
         ensures fixed { LeavesNothingOpen state_of Makes }
         ensures reads { ReadsKeep image_of Makes }
     {

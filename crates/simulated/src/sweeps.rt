@@ -1,5 +1,4 @@
-// Many rows of an image. They are lent one at a time, by block number: after `chunks_mut` has lent
-// all rows at once, the library's contract keeps the image's length alone.
+// Many rows of an image, which are lent one at a time by indexing (docs/DECISIONS.md says why).
 ghost use Rattle.std.specs.Prelude.{◌≡◌, ◌<◌, drop, if◌then◌else◌, nat_lt, slice_index};
 ghost use Rattle.std.specs.Slice.Iter.{iter_rest};
 ghost use Rattle.images.specs.Images.{with_row, row, ChangesRows};
