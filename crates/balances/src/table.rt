@@ -1,5 +1,5 @@
-// The table, with what always holds of it. (A struct's invariants see all imports of its file, so it
-// has a file with few.)
+// The table, with what always holds of it. (A struct's invariants see all imports of its file,
+// so it has a file with few.)
 ghost use Rattle.balances.specs.Rows.{IsWholeTable, KeepsCeiling};
 
 use book::{ACCOUNTS, Holding};

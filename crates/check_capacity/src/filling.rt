@@ -10,8 +10,8 @@ use refusals::fault_number;
 use simulated::Simulated;
 use std::io;
 
-// An image of as many blocks as a device can have, which a header and `MOST_PAIRS` pairs fill. A row
-// of a simulated device has 514 bytes.
+// An image of as many blocks as a device can have, which a header and `MOST_PAIRS` pairs fill. A
+// row of a simulated device has 514 bytes.
 const IMAGE_LENGTH: usize = MOST_BLOCKS * 514;
 
 type OpenEngine = Engine<Simulated, Balances, Balances>;

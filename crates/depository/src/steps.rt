@@ -36,8 +36,8 @@ fn answer_to_question<D: Device, R: Book, C: Book>(
 }
 
 impl<D: PoweredDevice, R: Book, C: Book> Depository<D, R, C> {
-    // The engine's answer to an instruction, or a misfit. The clause `fit` says again what the types of
-    // the fields say, since a proof about a slice of calls does not have it.
+    // The engine's answer to an instruction, or a misfit. The clause `fit` says again what the
+    // types of the fields say, since a proof about a slice of calls does not have it.
     pub(crate) fn instruct(&mut self, x: Instruction) -> Reply
         ensures fit { IsEncodable x }
         ensures does { LeadsTo (rulebook_of R.book_kind C.book_kind) D.PoweredDevice.most_calls
@@ -52,7 +52,8 @@ impl<D: PoweredDevice, R: Book, C: Book> Depository<D, R, C> {
         }
     }
 
-    // Closes the engine, or is a misfit. A known slip is owed from then on in place of the one before.
+    // Closes the engine, or is a misfit. A known slip is owed from then on, in place of the one
+    // before.
     pub(crate) fn close(self) -> (Self, Reply)
         ensures does { LeadsTo (rulebook_of R.book_kind C.book_kind) D.PoweredDevice.most_calls
             (moment_of self) close_order result.1 (moment_of result.0) }

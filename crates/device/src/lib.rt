@@ -2,12 +2,12 @@
 //!
 //! [`Device`] says what a read, a write, a sync and the question for the size answer and change,
 //! and [`PoweredDevice`] what a restart leaves. Each promise is a contract of the trait (by `Read`,
-//! `Write` and `Sync` in `specs/Calls`, and by four clauses of `restart`), so code over any device is proved once. What only
-//! one kind of device does is said by that kind, in `makes`.
+//! `Write` and `Sync` in `specs/Calls`, and by four clauses of `restart`), so code over any device
+//! is proved once. What only one kind of device does is said by that kind, in `makes`.
 //!
-//! A device over another device needs only this crate and `refusals`: it states its own `medium` in terms
-//! of the other's, and [`admit`] makes the checks that a read and a write share. docs/DEVICES.md
-//! says all this in words.
+//! A device over another device needs only this crate and `refusals`: it states its own `medium` in
+//! terms of the other's, and [`admit`] makes the checks that a read and a write share.
+//! docs/DEVICES.md says all this in words.
 #![tactic(auto)]
 
 ghost use Rattle.std.specs.Prelude.{◌≡◌, ℕ, ◌^◌, ◌<◌, min, false, length};
@@ -76,7 +76,7 @@ pub trait Device {
     ///
     /// # Errors
     ///
-    /// 13 if no calls are left, which names no block. Some blocks may be loose no longer then.
+    /// 13 if no calls are left, which names no block. It may leave fewer blocks loose.
     fn sync(&mut self) -> Result<(), Fault>
         ensures call { Sync (medium self.old) (medium self.new) result }
         ensures kind { makes self.old syncing self.new };

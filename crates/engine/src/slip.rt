@@ -59,9 +59,9 @@ pub fn presented_number(presented: Result<Verdict, Refusal>) -> u8
     }
 }
 
-/// A slip: what a close says of its engine, in plain numbers. Only a close makes one, and it is owed:
-/// it cannot be dropped before it is presented to a later engine or filed, which gives its numbers. It says nothing where
-/// the opening of the engine that was closed had been refused.
+/// A slip: what a close says of its engine, in plain numbers. Only a close makes one, and it is
+/// owed: it cannot be dropped before it is presented to a later engine, or filed, which gives its
+/// numbers. It says nothing where the opening of the engine that was closed had been refused.
 #[derive(Debug)]
 pub struct Slip {
     holds: Option<Contents>,

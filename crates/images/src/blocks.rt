@@ -8,8 +8,8 @@ use device::MOST_BLOCKS;
 /// The number of blocks in an image with rows of `width` bytes: its whole rows, at most
 /// [`MOST_BLOCKS`], and 0 if the width is 0.
 ///
-/// The clause `bytes` says again what the type of the image says, for the proof that a device made of
-/// it holds bytes.
+/// The clause `bytes` says again what the type of the image says, for the proof that a device made
+/// of it holds bytes.
 pub fn whole_blocks(image: &[u8], width: usize) -> u32
     ensures value { result ≡ block_count width image.now }
     ensures bytes { AreBytes image.now }

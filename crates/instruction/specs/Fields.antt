@@ -1,5 +1,5 @@
 -- The fields of an instruction: where each lies among its bytes, and which of them each kind uses.
-use Rattle.std.specs.Prelude.{◌≡◌, ℕ, suc, ◌-◌, ◌^◌, ◌<◌, ◌≤◌, ◌↔◌, ◌≢◌, Bool, false, cond, not, ◌&&◌, List, [], ◌∷◌, ◌==◌, slice_index}
+use Rattle.std.specs.Prelude.{◌≡◌, ℕ, suc, ◌-◌, ◌^◌, ◌<◌, ◌≤◌, ◌↔◌, ◌≢◌, Bool, false, if◌then◌else◌, not, ◌&&◌, List, [], ◌∷◌, ◌==◌, slice_index}
 use Rattle.std.specs.List.{list_any}
 use Rattle.instruction.specs.declared.Kind.{Kind}
 use Rattle.instruction.specs.declared.Kind.TheVariants.{Issue, PayIn, Enter, Earmark, Fund, Settle, Free}
@@ -69,11 +69,11 @@ has_stray k i = list_any (λ f. not (uses k f) && not (value_of f i == 0)) all_f
 -- how many fields of the list stand before this one
 abbrev pub rank_in : List Field → Field → ℕ
 rank_in [] f = 0
-rank_in (g ∷ gs) f = cond (is_same f g) 0 (suc (rank_in gs f))
+rank_in (g ∷ gs) f = if is_same f g then 0 else suc (rank_in gs f)
 
 -- the number for a field, of the numbers for all fields that the kind uses; 0 for any other field
 abbrev pub number_for : Kind → List ℕ → Field → ℕ
-number_for k ns f = cond (uses k f) (slice_index ns (rank_in (fields_of k) f)) 0
+number_for k ns f = if uses k f then slice_index ns (rank_in (fields_of k) f) else 0
 
 -- the instruction of a kind with these numbers in the fields that the kind uses, and 0 elsewhere
 abbrev pub instruction_with : Kind → List ℕ → Instruction

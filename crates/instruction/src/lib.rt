@@ -2,7 +2,8 @@
 //!
 //! Instructions and their bytes match one to one: `to_bytes` promises it by its clauses `laid_out`
 //! and `read_back`, `from_bytes` by `exact`. Which fields a kind uses is stated once, by
-//! `Kind::uses`. The clause `law` of `has_stray_field` guards it, field by field, in words of its own.
+//! `Kind::uses`. The clause `law` of `has_stray_field` guards it, field by field, in words of its
+//! own.
 #![tactic(auto)]
 
 ghost use Rattle.std.specs.Prelude.{◌≡◌, ◌+◌, ◌≤◌, length, Ok};

@@ -29,4 +29,5 @@ pub record ReadsMark (k : ℕ) (bs : List ℕ) (r : Bool) : Type 0 where
 -- 46 where no record of entry k has these bytes
 abbrev pub ReadsRecord : ℕ → List ℕ → Result Instruction Refusal → Type 0
 ReadsRecord k bs (Ok x) = record_bytes k x ≡ bs
-ReadsRecord k bs (Err r) = (number_of r ≡ 46) × ((x : Instruction) → IsEncodable x → record_bytes k x ≢ bs)
+ReadsRecord k bs (Err r) =
+    (number_of r ≡ 46) × ((x : Instruction) → IsEncodable x → record_bytes k x ≢ bs)

@@ -5,7 +5,6 @@ ghost use Rattle.journal.specs.Entries.{after_reads, block_read, read_mark_answe
 ghost use Rattle.journal.specs.Headers.{read_header_answer, after_read_header, Fits};
 ghost use Rattle.journal.specs.Journal.{mark_at, record_at};
 
-use crate::MOST_PAIRS;
 use crate::entry::{decode_record, is_good_mark, mark_block_number, record_block_number};
 use crate::header::Header;
 use device::{BLOCK_SIZE, Device};
@@ -43,13 +42,12 @@ pub fn read_header<D: Device>(device: &mut D, register: u8, cash: u8) -> Result<
 
 /// Whether the mark of an entry is good: one that cannot be read is not. It reads one block, once.
 ///
-/// The caller has made sure that a journal can have this entry, and that the device has its blocks.
+/// The caller has made sure that the device has the entry's blocks.
 ///
 /// # Errors
 ///
 /// 13, with the block and the entry: no call is left.
 pub fn read_mark<D: Device>(device: &mut D, entry: u32) -> Result<bool, Fault>
-    requires small { entry < MOST_PAIRS }
     requires within { mark_at entry < (D.medium device.old).size }
     ensures answer { result ≡ read_mark_answer (D.medium device.old) entry }
     ensures after { D.medium device.new ≡ after_reads 1 (D.medium device.old) }
@@ -65,7 +63,7 @@ pub fn read_mark<D: Device>(device: &mut D, entry: u32) -> Result<bool, Fault>
 
 /// The instruction that the record of an entry says. It reads one block, once.
 ///
-/// The caller has made sure that a journal can have this entry, and that the device has its blocks.
+/// The caller has made sure that the device has the entry's blocks.
 ///
 /// # Errors
 ///
@@ -73,7 +71,6 @@ pub fn read_mark<D: Device>(device: &mut D, entry: u32) -> Result<bool, Fault>
 /// - 14, with the block and the entry: the block cannot be read.
 /// - 46, with the entry: the block is not the record of this entry.
 pub fn read_record<D: Device>(device: &mut D, entry: u32) -> Result<Instruction, Fault>
-    requires small { entry < MOST_PAIRS }
     requires within { mark_at entry < (D.medium device.old).size }
     ensures answer { result ≡ read_record_answer (D.medium device.old) entry }
     ensures after { D.medium device.new ≡ after_reads 1 (D.medium device.old) }

@@ -5,7 +5,6 @@ ghost use Rattle.journal.specs.Blocks.{record_bytes, mark_bytes};
 ghost use Rattle.journal.specs.Entries.{write_entry_calls};
 ghost use Rattle.journal.specs.Journal.{mark_at, write_entry_answer, WritesEntry};
 
-use crate::MOST_PAIRS;
 use crate::entry::{mark_block, mark_block_number, record_block, record_block_number};
 use device::Device;
 use instruction::Instruction;
@@ -13,14 +12,13 @@ use refusals::Fault;
 
 /// Writes an entry, in four calls: its record, a sync, its mark, a sync.
 ///
-/// The caller has made sure that a journal can have this entry, and that the device has its blocks.
+/// The caller has made sure that the device has the entry's blocks.
 ///
 /// # Errors
 ///
 /// 13: no call is left for one of the four. It names the block of a write, and none of a sync.
 // One sync for both would let the mark outlive its record.
 pub fn write_entry<D: Device>(device: &mut D, entry: u32, x: &Instruction) -> Result<(), Fault>
-    requires small { entry < MOST_PAIRS }
     requires within { mark_at entry < (D.medium device.old).size }
     ensures answer { result ≡ write_entry_answer (D.medium device.old) entry }
     ensures after { WritesEntry (record_bytes entry x.now) (mark_bytes entry) entry

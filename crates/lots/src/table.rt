@@ -1,5 +1,5 @@
-// The table, with what always holds of it. (A struct's invariants see all imports of its file, so it
-// has a file with few.)
+// The table, with what always holds of it. (A struct's invariants see all imports of its file,
+// so it has a file with few.)
 ghost use Rattle.lots.specs.Owners.{IsWholeTable, AccountsOwn};
 
 // How many items the book has, numbered from 0.

@@ -202,7 +202,8 @@ step h s x = if_ok (answer h s x) (effect s x) s
 pub data AreAccepted (h : Rulebook) : List Instruction → Standing → Type 0 where
   start : AreAccepted h [] empty
   more :
-      {xs : List Instruction} {s : Standing} (x : Instruction) → AreAccepted h xs s → answer h s x ≡ Ok tt
+      {xs : List Instruction} {s : Standing} (x : Instruction)
+      → AreAccepted h xs s → answer h s x ≡ Ok tt
       → AreAccepted h (xs ++ (x ∷ [])) (effect s x)
 
 -- some list of accepted instructions leads here

@@ -25,7 +25,8 @@ module _ (r bytes : List ℕ) (full : length r ≡ ROW) (n : length bytes ≡ BL
   written-full = simp length-append (omega (arith, front))
 
   pub written-loose : is_loose (row_after_write r bytes) ≡ true
-  written-loose = ap (λ (x : ℕ). not (x == 0)) (get_or_at (take LOOSE_FLAG r) 1 bytes 0 LOOSE_FLAG front)
+  written-loose =
+      ap (λ (x : ℕ). not (x == 0)) (get_or_at (take LOOSE_FLAG r) 1 bytes 0 LOOSE_FLAG front)
 
   pub written-shown : shown_bytes (row_after_write r bytes) ≡ Some bytes
   written-shown =
@@ -43,6 +44,10 @@ pub shows : Shows ROW shown_bytes
 shows r x full bytes e =
     let way : (x ≡ kept_bytes r) ⊎ (x ≡ newer_bytes r) = grind arith in
     elim way [
-      | inl q ↦ (ap length q ∙ kept-full r full, subst AreBytes (sym q) (cut-bytes r BLOCK_SIZE 1 bytes))
-      | inr q ↦ (ap length q ∙ newer-full r full, subst AreBytes (sym q) (cut-bytes r BLOCK_SIZE NEWER bytes))
+      | inl q ↦
+          (ap length q ∙ kept-full r full, subst AreBytes (sym q) (cut-bytes r BLOCK_SIZE 1 bytes))
+      | inr q ↦ (
+        ap length q ∙ newer-full r full,
+        subst AreBytes (sym q) (cut-bytes r BLOCK_SIZE NEWER bytes),
+      )
     ]
