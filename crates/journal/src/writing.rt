@@ -17,7 +17,6 @@ use refusals::Fault;
 /// # Errors
 ///
 /// 13: no call is left for one of the four. It names the block of a write, and none of a sync.
-// One sync for both would let the mark outlive its record.
 pub fn write_entry<D: Device>(device: &mut D, entry: u32, x: &Instruction) -> Result<(), Fault>
     requires within { mark_at entry < (D.medium device.old).size }
     ensures answer { result ≡ write_entry_answer (D.medium device.old) entry }
@@ -26,6 +25,7 @@ pub fn write_entry<D: Device>(device: &mut D, entry: u32, x: &Instruction) -> Re
     ensures trace { IsTrace D.makes (write_entry_calls entry x.now (D.medium device.old).calls_left)
         device.old device.new }
 {
+    // One sync for both would let the mark outlive its record.
     device.write(record_block_number(entry), &record_block(entry, x))?;
     device.sync()?;
     device.write(mark_block_number(entry), &mark_block(entry))?;
