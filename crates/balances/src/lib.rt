@@ -20,7 +20,11 @@ use table::{CEILING, ITEMS};
 impl Balances {
     /// An empty book.
     pub fn new() -> Balances
-        ensures { meaning result ≡ nothing }
+        ensures empty { meaning result ≡ nothing }
+
+        // how many items there are, and how much of each at most, as numbers
+        ensures items { balances_kind.items ≡ 16 }
+        ensures ceiling { balances_kind.ceiling ≡ 1000000000000 }
     {
         Balances {
             rows: [[Holding {

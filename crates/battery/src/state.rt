@@ -20,6 +20,7 @@ impl Battery {
     /// last whole row, and rows past the 65,535th, are no block's and never change.
     pub fn new(image: Vec<u8>, calls_left: u32) -> Battery
         ensures image { image_of result ≡ image.items }
+        ensures same { result.rows.image ≡ image }
         ensures size { (meaning result).size ≡ block_count ROW image.items }
         ensures calls_left { (meaning result).calls_left ≡ calls_left }
 
@@ -34,7 +35,8 @@ impl Battery {
 
     /// The image as the device left it.
     pub fn into_image(self) -> Vec<u8>
-        ensures { result.items ≡ image_of self }
+        ensures image { result.items ≡ image_of self }
+        ensures same { let r = self.rows in result ≡ r.image }
     {
         self.rows.image
     }

@@ -1,6 +1,6 @@
 -- What a device means, and the limits that every device keeps.
 use Rattle.std.specs.Prelude.{◌≡◌, ℕ, ◌^◌, ◌<◌, ◌≤◌, Bool, false, List, length, Some, None, Option}
-use Rattle.device.specs.declared.TheConstants.{BLOCK_SIZE, MOST_BLOCKS}
+use Rattle.device.specs.declared.TheConstants.{BLOCK_SIZE, MOST_BLOCKS, MOST_CALLS}
 use Rattle.device.specs.Bytes.{AreBytes}
 
 pub record Medium : Type 0 where
@@ -21,3 +21,9 @@ pub record IsBounded (m : Medium) : Type 0 where
   -- past the last block nothing is held and nothing is loose
   pub none-held : (b : ℕ) → m.size ≤ b → m.holds b ≡ None
   pub none-loose : (b : ℕ) → m.size ≤ b → m.loose b ≡ false
+
+-- the limits as numbers, counted out so that a wrong constant is refused
+pub record LimitsByNumber : Type 0 where
+  pub block-size : BLOCK_SIZE ≡ 256
+  pub most-blocks : MOST_BLOCKS ≡ 65535
+  pub most-calls : MOST_CALLS ≡ 4294967295

@@ -1,5 +1,6 @@
 // The checks that a read and a write share.
 ghost use Rattle.std.specs.Prelude.{◌≡◌};
+ghost use Rattle.device.specs.Medium.{LimitsByNumber};
 ghost use Rattle.device.specs.Calls.{admit_answer};
 
 use crate::BLOCK_SIZE;
@@ -14,7 +15,8 @@ use refusals::{Fault, Refusal};
 /// In this order: 11 if there is no such block, 12 if `length` is not [`BLOCK_SIZE`], 13 if no
 /// calls are left. Each names the block.
 pub fn admit(size: u32, calls_left: u32, block: u32, length: usize) -> Result<(), Fault>
-    ensures { result ≡ admit_answer size calls_left block length }
+    ensures answer { result ≡ admit_answer size calls_left block length }
+    ensures limits { LimitsByNumber }
 {
     if block >= size {
         return Err(Fault::at_block(Refusal::NoBlock, block));

@@ -1,5 +1,6 @@
 // The header of a journal, as bytes and as a value.
 ghost use Rattle.std.specs.Prelude.{◌≡◌};
+ghost use Rattle.journal.specs.declared.TheConstants.{MOST_PAIRS};
 ghost use Rattle.journal.specs.Blocks.{header_bytes, header_in};
 ghost use Rattle.journal.specs.Places.{HeaderPlaces};
 ghost use Rattle.journal.specs.Decoding.{ReadsHeader};
@@ -49,6 +50,9 @@ impl Header {
     pub fn from_block(block: &[u8; BLOCK_SIZE]) -> Result<Header, Refusal>
         ensures value { result ≡ header_in block.now }
         ensures exact { ReadsHeader block.now result }
+
+        // the most pairs that a journal can have, as a number
+        ensures most { MOST_PAIRS ≡ 32767 }
     {
         let [edition, books, register, cash, n0, n1, n2, n3, rest @ ..] = &block[..] else {
             return Err(Refusal::NotAHeader);

@@ -40,7 +40,11 @@ impl Lot {
 impl Lots {
     /// A book of lots that no one has.
     pub fn new() -> Lots
-        ensures { meaning result ≡ nothing }
+        ensures empty { meaning result ≡ nothing }
+
+        // how many lots there are, and how much of each, as numbers
+        ensures items { lots_kind.items ≡ 256 }
+        ensures ceiling { lots_kind.ceiling ≡ 1 }
     {
         Lots {
             lots: [Lot::Unowned; ITEMS as usize],

@@ -83,3 +83,11 @@ LeavesImage xs calls_left (writing b bytes) ys =
     ys ≡ if_ok answer (image_after_write xs b bytes) xs
 LeavesImage xs calls_left syncing ys = SyncsImage (spend_answer calls_left) xs ys
 LeavesImage xs calls_left (restarting asked remains) ys = RestartsImage xs remains ys
+
+-- where a row's parts lie and where a torn write stops, counted out so that a wrong constant is
+-- refused
+pub record RowByNumber : Type 0 where
+  pub width : ROW ≡ 514
+  pub flag : LOOSE_FLAG ≡ 257
+  pub newer : NEWER ≡ 258
+  pub half : HALF_BLOCK ≡ 128
