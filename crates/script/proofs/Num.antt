@@ -1,11 +1,9 @@
-use Rattle.std.proofs.Common.{◌≡◌, ℕ, ◌+◌, ◌-◌, ◌*◌, ◌^◌, ◌<◌, ◌≤◌, leb, List, [], ◌∷◌, length, get_or, Some, None, Ok, Err, decimal, Option, Result, sym, refl, ap, ◌∙◌, subst, lit<, arith, rules}
+use Rattle.std.proofs.Common.{◌≡◌, ℕ, ◌+◌, ◌-◌, ◌*◌, ◌^◌, ◌<◌, ◌≤◌, true, false, leb, le-leb, List, [], ◌∷◌, length, get_or, Some, None, Ok, Err, decimal, Option, Result, sym, refl, ap, ◌∙◌, subst, lit<, arith, rules}
 use Rattle.std.specs.Bool.{then_some}
-use Rattle.std.specs.Result.{result_ok}
-use Rattle.std.specs.Str.{IsAscii, IsUtf8}
-use Rattle.std.specs.Str.Parse.{ParsesUnsigned}
-use Rattle.std.proofs.lemmas.Str.{IsUtf8-from_ascii}
-use Rattle.std.proofs.lemmas.Str.Parse.{IsNumeralModel, numerals_by_fold, parse_plain}
-use Rattle.std.proofs.lemmas.Fmt.{IsAscii-decimal, parse-decimal, decimal_injective, decimal-digits_value, digits_decimal, digits_value-decimal, decimal_nonempty, first_decimal, decimal_digit}
+use Rattle.std.proofs.lemmas.Str.Parse.{IsNumeralModel, numerals_by_fold}
+use Rattle.std.proofs.lemmas.Fmt.{decimal_injective, decimal-digits_value, digits_decimal, digits_value-decimal, decimal_nonempty, first_decimal, decimal_digit}
+use Rattle.std.proofs.lemmas.Bool.{and_from, lt-leb}
+use Rattle.script.specs.Words.{is_digit}
 use Rattle.script.specs.Numerals.{largest_in, numeral_from, numeral, ReadsNumber}
 use Rattle.script.specs.Requests.{and_then}
 
@@ -37,7 +35,7 @@ from-complete most n [] d h = refl
 from-complete most n (c ∷ cs) d h =
     let g = read_on-ge (n * 10 + (c - 48)) cs in search (rules, from-complete most (n * 10 + (c - 48)) cs)
 
-start : (most : ℕ) (ds : List ℕ) → 0 < length ds → (1 < length ds → get_or ds 0 0 ≡ 48 → ⊥)
+pub start : (most : ℕ) (ds : List ℕ) → 0 < length ds → (1 < length ds → get_or ds 0 0 ≡ 48 → ⊥)
     → numeral_from most 0 ds ≡ numeral most ds
 start most ds h z = search rules
 
@@ -61,7 +59,7 @@ complete most n h l =
     sym (start most (decimal n) (decimal_nonempty n k) (no-zero (decimal n) n k refl))
     ∙ from-complete most 0 (decimal n) (digits_decimal own n k) (omega arith) ∙ ap (λ m. Some m) v
 
-reads-number : (most : ℕ) (bs : List ℕ) (r : Option ℕ) → most < 2 ^ 64 → r ≡ numeral most bs → ReadsNumber most bs r
+pub reads-number : (most : ℕ) (bs : List ℕ) (r : Option ℕ) → most < 2 ^ 64 → r ≡ numeral most bs → ReadsNumber most bs r
 reads-number most bs r h e =
     let s : (n : ℕ) → numeral most bs ≡ Some n → (bs ≡ decimal n) × (n ≤ most) = λ n. sound most n bs h in
     let k : (n : ℕ) → n ≤ most → numeral most (decimal n) ≡ Some n = λ n. complete most n h in
@@ -89,16 +87,17 @@ pub numeral-below : (most : ℕ) (bs : List ℕ) → most < 2 ^ 64
     → and_then (numeral (largest_in 8) bs) (λ n. then_some (leb n most) n) ≡ numeral most bs
 numeral-below most bs h = numeral-only most bs _ h (number-below most bs h)
 
--- a first digit that is not zero, or zero alone
-abbrev pub Plain : List ℕ → Type 0
-Plain bs = (0 < length bs) × (48 ≤ get_or bs 0 0) × (get_or bs 0 0 ≤ 57) × (get_or bs 0 0 ≡ 48 → length bs ≡ 1)
+-- what the next byte of a text makes of the number so far
+digit-yes : (c : ℕ) → 48 ≤ c → c ≤ 57 → is_digit c ≡ true
+digit-yes c h k = and_from (leb 48 c) (leb c 57) (le-leb 48 c h) (le-leb c 57 k)
 
-pub parsed : {E : Type 0} (bs : List ℕ) (r : Result ℕ E) → Plain bs → ParsesUnsigned 64 10 bs r
-    → ReadsNumber (largest_in 8) bs (result_ok r)
-parsed {E} bs (Ok n) p h =
-    let q = parse_plain own {E = E} 64 bs (Ok n) h (λ e. omega (arith, p.1)) in
-    (sym (ap decimal q.1 ∙ decimal-digits_value own bs q.0.0 p.0 p.3 q.0.2), omega (arith, q.0.2, q.1))
-parsed bs (Err e) p h = λ n l d. absurd (let z = parse-decimal 64 n bs (Err e) (omega arith) (omega arith) d h in cc)
+pub turn : (most n c : ℕ) (cs : List ℕ) → 48 ≤ c → c ≤ 57 → n * 10 + (c - 48) ≤ most
+    → numeral_from most n (c ∷ cs) ≡ numeral_from most (n * 10 + (c - 48)) cs
+turn most n c cs h k l = let a = digit-yes c h k in let b = le-leb (n * 10 + (c - 48)) most l in rw (a, b)
 
-pub no-text : (bs : List ℕ) → (IsUtf8 bs → ⊥) → ReadsNumber (largest_in 8) bs None
-no-text bs h = λ n l d. h (IsUtf8-from_ascii bs (subst IsAscii (sym d) (IsAscii-decimal n (omega arith))))
+pub stray : (most n c : ℕ) (cs : List ℕ) → is_digit c ≡ false → numeral_from most n (c ∷ cs) ≡ None
+stray most n c cs e = rw e
+
+pub over : (most n c : ℕ) (cs : List ℕ) → 48 ≤ c → c ≤ 57 → most < n * 10 + (c - 48)
+    → numeral_from most n (c ∷ cs) ≡ None
+over most n c cs h k l = let a = digit-yes c h k in let b = lt-leb (n * 10 + (c - 48)) most l in rw (a, b)

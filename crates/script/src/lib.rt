@@ -180,17 +180,23 @@ pub fn number(digits: &[u8], most: u64) -> Option<u64>
     ensures bound { IfSome result (λ n. n ≤ most) }
     ensures exact { ReadsNumber most digits.now result }
 {
-    decimal(digits).filter(|n| *n <= most)
-}
-
-// A decimal number with no leading zero: `parse` takes a plus sign and leading zeros too.
-fn decimal(digits: &[u8]) -> Option<u64>
-    ensures { result ≡ numeral (largest_in 8) digits.now }
-{
     let ([b'0'] | [b'1'..=b'9', ..]) = digits else {
         return None;
     };
-    str::from_utf8(digits).ok()?.parse().ok()
+    // It stops at the first byte that decides. `parse` needs a text that is known to be UTF-8, so
+    // all of it would be gone over first.
+    let mut n = 0u64;
+    for d in digits {
+        if !d.is_ascii_digit() {
+            return None;
+        }
+        let digit = u64::from(*d - b'0');
+        if n > most / 10 || digit > most - n * 10 {
+            return None;
+        }
+        n = n * 10 + digit;
+    }
+    Some(n)
 }
 
 /// The lines of a script that are left. A line feed ends each, and may be missing after the last.
