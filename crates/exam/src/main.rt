@@ -3,7 +3,6 @@
 //! What it prints is what `examination::examine` gives, which is proved to be the key of the script.
 #![tactic(auto)]
 
-use anyhow::anyhow;
 use examination::examine;
 use std::io::Read;
 
@@ -15,7 +14,7 @@ fn main(rt: HostRuntime) -> anyhow::Result<()> {
     let heap = rt.alloc();
     let mut script = Vec::new(heap);
     rt.stdin().take(ENOUGH).read_to_end(&mut script)?;
-    let key = examine(heap, script.as_slice()).map_err(|_| anyhow!("no memory for the key"))?;
+    let key = examine(heap, script.as_slice())?;
     print!(rt; "{key}")?;
     Ok(())
 }

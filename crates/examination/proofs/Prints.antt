@@ -1,7 +1,9 @@
 -- What the program prints: its device can be formatted, so a script gets its key unless it is too
 -- long; and that key is one.
-use Rattle.std.proofs.Common.{◌≡◌, ℕ, List, length, drop, Ok, Err, inl, inr, sym, refl, ap, ◌∙◌, subst, arith}
+use Rattle.std.proofs.Common.{◌≡◌, ℕ, List, length, drop, Ok, Err, Result, inl, inr, sym, refl, ap, ◌∙◌, subst, arith, rules}
+use Rattle.std.specs.Result.{IfOk, IsErrAnd, MatchResult}
 use Rattle.std.proofs.lemmas.List.{length-replicate}
+use Rattle.std.proofs.lemmas.Result.{err_from_is_err_and}
 use Rattle.refusals.specs.declared.Refusal.TheVariants.{InputTooLong}
 use Rattle.refusals.specs.declared.Fault.{Fault}
 use Rattle.book.specs.Holdings.{Holdings, nothing}
@@ -85,3 +87,9 @@ print-one script text other (inr p) (inr q) = p.1 ∙ sym q.1
 
 pub keys_are_unique : KeysAreUnique
 keys_are_unique = record { one = print-one }
+
+-- what holds of the value holds also where the error was made another
+pub other-error : {T E D : Type 0} (Q : E → D → Type 0) (r : Result T E) (s : Result T D) (P : T → Type 0)
+    → MatchResult r (λ x. s ≡ Ok x) (λ e. IsErrAnd s (Q e)) → IfOk r P → IfOk s P
+other-error Q (Ok x) s P cases h = subst (λ t. IfOk t P) (sym cases) h
+other-error Q (Err e) s P cases h = let p = err_from_is_err_and s cases in subst (λ t. IfOk t P) (sym p.1) tt

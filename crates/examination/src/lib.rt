@@ -24,7 +24,7 @@ pub use depository::Stop;
 use depository::{Call, Reply, serve};
 use device::{Device, PoweredDevice};
 use lines::{answers_for, calls_for, read_requests};
-pub use program::examine;
+pub use program::{NoKey, examine};
 use refusals::{Fault, Refusal};
 use std::alloc::Global;
 
