@@ -72,6 +72,13 @@ pub fn decode_record(block: &[u8; BLOCK_SIZE], entry: u32) -> Result<Instruction
     ensures value { result ≡ record_in entry block.now }
     ensures exact { ReadsRecord entry block.now result }
 {
+    // Most blocks that are no such record show it here, before the instruction is read.
+    if u32::from_little_endian(&[block[0], block[1], block[2], block[3]]) != entry {
+        return Err(Refusal::Malformed);
+    }
+    if u32::from_little_endian(&[block[4], block[5], block[6], block[7]]) != 1 {
+        return Err(Refusal::Malformed);
+    }
     let x = Instruction::from_bytes(&block[8..40])?;
     if *block != record_block(entry, &x) {
         return Err(Refusal::Malformed);

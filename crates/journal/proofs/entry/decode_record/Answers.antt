@@ -2,7 +2,7 @@ use Rattle.std.proofs.Common.{refl, sym, ◌∙◌, rules}
 use Rattle.std.proofs.lemmas.Slice.Eq.{slice_eq-Decides}
 use Rattle.std.proofs.lemmas.Bool.{not-false}
 use Rattle.std.proofs.lemmas.Bool.Decides.{Decides-eqb, Decides-not}
-use Rattle.journal.proofs.Trips.{record-other, record-same}
+use Rattle.journal.proofs.Trips.{reads-record, record-other, record-same}
 use Rattle.journal.proofs.entry.decode_record.Goals as goal
 
 pub returns-then-ne-clause-value : goal.returns-then-ne-clause-value
@@ -11,6 +11,11 @@ returns-then-ne-clause-value c =
     record-other c.args.entry c.args.block.now c.in_ok-x.x c.told-block c.fits-block
     (sym c.from_bytes.ensures.value ∙ c.in_ok-x.was)
     (λ e. differs.0 (sym c.if-ne.ensures) (e ∙ sym c.record_block.ensures.value))
+
+pub returns-then-ne-clause-exact : goal.returns-then-ne-clause-exact
+returns-then-ne-clause-exact c =
+    reads-record c.args.entry c.args.block.now _ (search rules) c.told-block c.fits-block
+    (returns-then-ne-clause-value c)
 
 pub returns : goal.returns
 returns c =
