@@ -27,5 +27,5 @@ mod instructing;
 mod opening;
 mod slip;
 
-pub use engine::Engine;
+pub use engine::{Engine, FoundEntries, Mode};
 pub use slip::{Contents, Slip, Verdict, presented_number};
